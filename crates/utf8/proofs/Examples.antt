@@ -1,0 +1,50 @@
+-- What the definition says of a few short texts, computed.
+-- Assumes nothing.
+use mathlib.Core.Path.{_≡_, refl}
+use mathlib.Core.List.{List, [], _∷_}
+use Prim.Native.Nat.{ℕ}
+use Rattle.source.specs.Text.{bytes}
+use Rattle.utf8.specs.declared.Utf8.{Utf8}
+use Rattle.utf8.specs.declared.Utf8.the-variants.{WellFormed, IllFormed}
+use Rattle.utf8.specs.Table.{rows, sequenceLength, firstIllFormed, utf8Error}
+
+says : List ℕ → Utf8
+unfolding rows sequenceLength firstIllFormed utf8Error
+says s = utf8Error s
+
+nothing : says [] ≡ WellFormed
+unfolding says
+nothing = refl
+
+ascii : says (bytes "if a:\n") ≡ WellFormed
+unfolding says
+ascii = refl
+
+-- U+0065, U+00E9, U+20AC and U+1F600: a sequence of each length
+each-length : says (0x65 ∷ 0xC3 ∷ 0xA9 ∷ 0xE2 ∷ 0x82 ∷ 0xAC ∷ 0xF0 ∷ 0x9F ∷ 0x98 ∷ 0x80 ∷ []) ≡ WellFormed
+unfolding says
+each-length = refl
+
+-- ED A0 80 would be the surrogate U+D800, ED 9F BF is U+D7FF
+surrogate : says (0xED ∷ 0x9F ∷ 0xBF ∷ 0xED ∷ 0xA0 ∷ 0x80 ∷ []) ≡ IllFormed 3
+unfolding says
+surrogate = refl
+
+-- C0 AF would be U+002F and E0 9F BF U+07FF, each with a byte too many
+overlong-two : says (0x61 ∷ 0xC0 ∷ 0xAF ∷ []) ≡ IllFormed 1
+unfolding says
+overlong-two = refl
+
+overlong-three : says (0xE0 ∷ 0x9F ∷ 0xBF ∷ []) ≡ IllFormed 0
+unfolding says
+overlong-three = refl
+
+-- a sequence that the end cuts off: the place is its first byte's, not the end
+cut-off : says (0x61 ∷ 0x62 ∷ 0xE2 ∷ 0x82 ∷ []) ≡ IllFormed 2
+unfolding says
+cut-off = refl
+
+-- F4 8F BF BF is U+10FFFF, the last; F4 90 80 80 would be above it
+too-large : says (0xF4 ∷ 0x8F ∷ 0xBF ∷ 0xBF ∷ 0xF4 ∷ 0x90 ∷ 0x80 ∷ 0x80 ∷ []) ≡ IllFormed 4
+unfolding says
+too-large = refl
