@@ -1,0 +1,4 @@
+pub mod Steps
+pub mod Words
+pub mod First
+pub mod Within
