@@ -76,13 +76,10 @@ inRow k lo hi x = alike rows x k && between lo hi x
 
 -- the sequence at a place whose byte starts what k starts
 module _ (s : List ℕ) (i k : ℕ) (within : i < length s) where
-  cut : drop i s ≡ getD s i 0 ∷ drop (i + 1) s
-  cut = at-cons s i within
-
   pub by-byte : (es : List Row) → alike rows (getD s i 0) k ≡ true → keep rows k ≡ es → sequenceLength (drop i s) ≡ lengthBy es (getD s i 0 ∷ drop (i + 1) s)
   unfolding sequenceLength
   by-byte es a e =
-      ap (lengthBy rows) cut ∙ narrow rows (getD s i 0) k (drop (i + 1) s) a
+      ap (lengthBy rows) (at-cons s i within) ∙ narrow rows (getD s i 0) k (drop (i + 1) s) a
       ∙ ap (λ (x : List Row). lengthBy x (getD s i 0 ∷ drop (i + 1) s)) e
 
   -- one row, that starts with the range r: what follows decides
@@ -124,9 +121,6 @@ module _ (s : List ℕ) (i n : ℕ) (within : i < length s) (isN : n ≡ sequenc
       let e : length s - i ≡ suc (length s - (i + 1)) = omega arith in
       rw (e, ← isN, drop-drop)
 
-  cut-here : drop i s ≡ getD s i 0 ∷ drop (i + 1) s
-  cut-here = at-cons s i within
-
   pub ill-formed-here : n ≡ 0 → errorFrom s i ≡ IllFormed i
   ill-formed-here z = once ∙ rw (z, at-cons s i within)
 
@@ -134,7 +128,7 @@ module _ (s : List ℕ) (i n : ℕ) (within : i < length s) (isN : n ≡ sequenc
   unfolding errorFrom
   goes-on h =
       once
-      ∙ ap (λ (l : List ℕ). step l n i (firstIllFormed (length s - (i + 1)) (i + n) (drop (i + n) s))) cut-here
+      ∙ ap (λ (l : List ℕ). step l n i (firstIllFormed (length s - (i + 1)) (i + n) (drop (i + n) s))) (at-cons s i within)
       ∙ go n h (firstIllFormed (length s - (i + 1)) (i + n) (drop (i + n) s))
       ∙ enough _ _ (i + n) (drop (i + n) s) (omega (arith, length-drop (i + n) s)) (omega (arith, length-drop (i + n) s))
     where
