@@ -3,3 +3,4 @@ pub mod Words
 pub mod First
 pub mod Within
 pub mod Laws
+mod Examples
