@@ -32,7 +32,8 @@ starts int b = isSign b || digit b
 starts float b = digit b
 starts string b = isQuote b
 
-miss : (p : Pattern) (b : ℕ) (l : List ℕ) → starts p b ≡ false → len p (b ∷ l) ≡ 0
+-- such a match has no length where it cannot
+pub miss : (p : Pattern) (b : ℕ) (l : List ℕ) → starts p b ≡ false → len p (b ∷ l) ≡ 0
 unfolding P.literal P.name P.int P.float
 miss (literal []) b l h = refl
 miss (literal (a ∷ w)) b l h = rw h

@@ -2,3 +2,5 @@ pub mod Steps
 pub mod Words
 pub mod First
 pub mod Within
+pub mod Laws
+mod Examples

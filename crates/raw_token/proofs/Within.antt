@@ -106,17 +106,26 @@ longest-le (e ∷ es) best l h = longest-le es (longer best (e .0) (len (e .1) l
     go true k = k
     go false k = h
 
-found-within : (at n : ℕ) (best : ℕ × ℕ) (code end : ℕ) → best .1 ≤ n - at → found at best ≡ Found code end → (at < end) × (end ≤ n)
-found-within at n best code end h e = go (best .1) h e
+-- what a found token says of the best match
+pub record Best (at : ℕ) (best : ℕ × ℕ) (code end : ℕ) : Type 0 where
+  pub some : 0 < best .1
+  pub code-is : best .0 ≡ code
+  pub end-is : at + best .1 ≡ end
+
+pub found-best : (at : ℕ) (best : ℕ × ℕ) (code end : ℕ) → found at best ≡ Found code end → Best at best code end
+found-best at best code end e = go (best .1) e refl
   where
-    go : (m : ℕ) → m ≤ n - at → cond (eqb m 0) NoMatch (Found (best .0) (at + m)) ≡ Found code end → (at < end) × (end ≤ n)
-    go zero k q = let z : _≡_ {A = ℕ} 0 1 = cc in omega arith
-    go (suc m) k q =
+    go : (m : ℕ) → cond (eqb m 0) NoMatch (Found (best .0) (at + m)) ≡ Found code end → best .1 ≡ m → Best at best code end
+    go zero q h = let z : _≡_ {A = ℕ} 0 1 = cc in absurd (omega arith)
+    go (suc m) q h =
         let r : Found (best .0) (at + suc m) ≡ Found code end = rw (ne-eqb (suc m) 0 (omega arith)) at q in
         let i : at + suc m ≡ end = cc in
-        omega arith
+        record { some = omega arith; code-is = cc; end-is = omega arith }
 
+-- a token has a byte or more, and ends within the source
 pub token-within : (s : List ℕ) (at code end : ℕ) → tokenAt s at ≡ Found code end → (at < end) × (end ≤ length s)
 unfolding tokenAt
 token-within s at code end e =
-    found-within at (length s) (longest (0, 0) table (drop at s)) code end (omega (arith, longest-le table (0, 0) (drop at s) zero-le, length-drop at s)) e
+    let b = found-best at (longest (0, 0) table (drop at s)) code end e in
+    let l = longest-le table (0, 0) (drop at s) zero-le in
+    (omega arith, omega (arith, length-drop at s))

@@ -4,130 +4,17 @@ ghost use mathlib.Core.Path.{_≡_};
 ghost use mathlib.Core.Bool.{true};
 ghost use Prim.Native.Nat.{_+_, _^_, _≤_, _<_};
 ghost use lib.ListN.{length, getD, take, drop};
-ghost use Rattle.source.specs.Bytes.{digit, run, Len};
-ghost use Rattle.raw_token.specs.Pattern as Pattern;
-ghost use Rattle.raw_token.specs.Pattern.{beginsName, continuesName, name, fraction, exponent, int, string, isQuote};
+ghost use Rattle.source.specs.Bytes.{digit};
+ghost use Rattle.raw_token.specs.Pattern.{beginsName, isQuote};
 ghost use Rattle.raw_token.specs.Table.{tokenAt};
 ghost use Rattle.raw_token.specs.Parts.{keywords, pack, codeOf, wordAt, signedAt, numberAt, stringAt, pairAt, onlyAt};
 ghost use Rattle.raw_token.specs.declared.RawToken.the-variants as variants;
 
+mod length; // length.rt: the lengths of names, numbers and strings
+
 pub enum RawToken {
     Found { code: u32, end: usize },
     NoMatch,
-}
-
-// What a name begins with: a letter or an underscore.
-fn begins_name(c: u8) -> bool
-    ensures { λ r. ⌜ r ≡ beginsName c ⌝ }
-{
-    ((b'a' <= c) & (c <= b'z')) | ((b'A' <= c) & (c <= b'Z')) | (c == b'_')
-}
-
-// What a name goes on with: a letter, a digit or an underscore.
-fn continues_name(c: u8) -> bool
-    ensures { λ r. ⌜ r ≡ continuesName c ⌝ }
-{
-    begins_name(c) | source::is_digit(c)
-}
-
-fn wide(b: u8) -> u64
-    ensures { λ r. ⌜ r ≡ b ⌝ }
-{
-    b as u64
-}
-
-// k and n more, and 0 where n is 0.
-fn behind(k: usize, n: usize) -> usize
-    requires { ⌜ k + n < 2 ^ 64 ⌝ }
-    ensures { λ r. ⌜ r ≡ Pattern.behind k n ⌝ }
-{
-    if n == 0 { 0 } else { k + n }
-}
-
-// How many characters that continue a name stand at `at`.
-fn continuation_len(s: &[u8], at: usize) -> usize
-    ensures { λ r. ⌜ Len (run continuesName) (now (s .entry)) at r ⌝ }
-{
-    let mut i = at;
-    while i < s.len() {
-        if continues_name(s[i]) {
-            i += 1;
-        } else {
-            return i - at;
-        }
-    }
-    i - at
-}
-
-// The length of a name.
-fn name_len(s: &[u8], at: usize) -> usize
-    ensures { λ r. ⌜ Len name (now (s .entry)) at r ⌝ }
-{
-    if begins_name(source::byte(s, at)) {
-        1 + continuation_len(s, at + 1)
-    } else {
-        0
-    }
-}
-
-// The length of a dot and digits.
-fn fraction_len(s: &[u8], at: usize) -> usize
-    ensures { λ r. ⌜ Len fraction (now (s .entry)) at r ⌝ }
-{
-    if source::byte(s, at) == b'.' {
-        behind(1, source::digits(s, at + 1))
-    } else {
-        0
-    }
-}
-
-// The length of an optional sign and digits.
-fn int_len(s: &[u8], at: usize) -> usize
-    ensures { λ r. ⌜ Len int (now (s .entry)) at r ⌝ }
-{
-    let b = source::byte(s, at);
-    if (b == b'+') | (b == b'-') {
-        behind(1, source::digits(s, at + 1))
-    } else {
-        source::digits(s, at)
-    }
-}
-
-// The length of an exponent: e or E, an optional sign, digits.
-fn exponent_len(s: &[u8], at: usize) -> usize
-    ensures { λ r. ⌜ Len exponent (now (s .entry)) at r ⌝ }
-{
-    let b = source::byte(s, at);
-    if (b == b'e') | (b == b'E') {
-        behind(1, int_len(s, at + 1))
-    } else {
-        0
-    }
-}
-
-// The length of a string, which starts with a quote.
-fn string_len(s: &[u8], at: usize) -> usize
-    requires { ⌜ (at < length (now s)) × (isQuote (getD (now s) at 0) ≡ true) ⌝ }
-    ensures { λ r. ⌜ Len string (now (s .entry)) at r ⌝ }
-{
-    let q = s[at];
-    let mut i = at + 1;
-    while i < s.len() {
-        let b = s[i];
-        if b == q {
-            return i + 1 - at;
-        }
-        if b == b'\\' {
-            let x = source::byte(s, i + 1);
-            if x == b'\n' {
-                return 0;
-            }
-            i += 2;
-        } else {
-            i += 1;
-        }
-    }
-    0
 }
 
 // What starts with a sign: an integer, or the operator with the code `op`.
@@ -135,7 +22,7 @@ fn signed(s: &[u8], at: usize, op: u32) -> RawToken
     requires { ⌜ at < length (now s) ⌝ }
     ensures { λ r. ⌜ r ≡ signedAt (now (s .entry)) at op ⌝ }
 {
-    let n = int_len(s, at);
+    let n = length::int_len(s, at);
     if n == 0 {
         RawToken::Found {
             code: op,
@@ -155,14 +42,14 @@ fn number(s: &[u8], at: usize) -> RawToken
     ensures { λ r. ⌜ r ≡ numberAt (now (s .entry)) at ⌝ }
 {
     let n = source::digits(s, at);
-    let f = fraction_len(s, at + n);
+    let f = length::fraction_len(s, at + n);
     if f == 0 {
         RawToken::Found {
             code: token::INT,
             end: at + n,
         }
     } else {
-        let e = exponent_len(s, at + n + f);
+        let e = length::exponent_len(s, at + n + f);
         RawToken::Found {
             code: token::FLOAT,
             end: at + n + f + e,
@@ -175,7 +62,7 @@ fn quoted(s: &[u8], at: usize) -> RawToken
     requires { ⌜ (at < length (now s)) × (isQuote (getD (now s) at 0) ≡ true) ⌝ }
     ensures { λ r. ⌜ r ≡ stringAt (now (s .entry)) at ⌝ }
 {
-    let n = string_len(s, at);
+    let n = length::string_len(s, at);
     if n == 0 {
         RawToken::NoMatch
     } else {
@@ -227,6 +114,12 @@ fn only_pair(s: &[u8], at: usize, second: u8, two: u32) -> RawToken
     }
 }
 
+fn wide(b: u8) -> u64
+    ensures { λ r. ⌜ r ≡ b ⌝ }
+{
+    b as u64
+}
+
 // The number of a word of at most 8 bytes, the first byte the lowest digit to the base 256.
 fn packed(s: &[u8], at: usize, len: usize) -> u64
     requires { ⌜ (at + len ≤ length (now s)) × (len ≤ 8) ⌝ }
@@ -274,7 +167,7 @@ fn word(s: &[u8], at: usize) -> RawToken
     requires { ⌜ (at < length (now s)) × (beginsName (getD (now s) at 0) ≡ true) ⌝ }
     ensures { λ r. ⌜ r ≡ wordAt (now (s .entry)) at ⌝ }
 {
-    let n = name_len(s, at);
+    let n = length::name_len(s, at);
     if n <= 8 {
         let code = keyword(packed(s, at, n));
         RawToken::Found { code, end: at + n }

@@ -1,4 +1,4 @@
--- `raw_token::continuation_len` meets its contract. The loop's invariant: the run's end, seen from `at`, is its end seen from i.
+-- `raw_token::length::continuation_len` meets its contract. The loop's invariant: the run's end, seen from `at`, is its end seen from i.
 -- Assumes nothing.
 use borrow.Author.Needs.{needs}
 use mathlib.Core.Path.{_≡_, refl, sym, _∙_}
@@ -7,8 +7,8 @@ use lib.ListN.{length, drop}
 use Rattle.source.specs.Bytes.{run}
 use Rattle.raw_token.specs.Pattern.{continuesName}
 use Rattle.source.proofs.Lists.{run-more, run-stop, run-end, run-len}
-use Rattle.raw_token.proofs.continuation_len.Statement.{statement}
-use Rattle.raw_token.proofs.continuation_len.Tie as tie
+use Rattle.raw_token.proofs.length.continuation_len.Statement.{statement}
+use Rattle.raw_token.proofs.length.continuation_len.Tie as tie
 
 abbrev Inv-loop : tie.InvT-loop
 Inv-loop s at i₀ i = (at ≤ i) × (at + run continuesName (drop at s) ≡ i + run continuesName (drop i s))

@@ -1,4 +1,4 @@
--- `raw_token::exponent_len` meets its contract: the letter decides.
+-- `raw_token::length::exponent_len` meets its contract: the letter decides.
 -- Assumes nothing.
 use borrow.Author.Needs.{needs}
 use native.Mathlib.Omega.{arith}
@@ -6,8 +6,8 @@ use mathlib.Core.Path.{refl, sym, ap, _∙_}
 use denote.Ref.{now}
 use Rattle.raw_token.specs.Pattern.{int, exponent, isE}
 use Rattle.raw_token.proofs.Steps.{hit-inside, seq-hit, seq-miss, one-more}
-use Rattle.raw_token.proofs.exponent_len.Statement.{statement}
-use Rattle.raw_token.proofs.exponent_len.Tie as tie
+use Rattle.raw_token.proofs.length.exponent_len.Statement.{statement}
+use Rattle.raw_token.proofs.length.exponent_len.Tie as tie
 
 byte-requires : tie.Need-byte-requires
 byte-requires c κs = search needs

@@ -1,10 +1,10 @@
--- `raw_token::behind` meets its contract, by the two laws of the definition.
+-- `raw_token::length::behind` meets its contract, by the two laws of the definition.
 -- Assumes nothing.
 use mathlib.Core.Path.{sym}
 use Rattle.raw_token.proofs.Steps.{behind-none, behind-some}
 use borrow.Author.Needs.{needs}
-use Rattle.raw_token.proofs.behind.Statement.{statement}
-use Rattle.raw_token.proofs.behind.Tie as tie
+use Rattle.raw_token.proofs.length.behind.Statement.{statement}
+use Rattle.raw_token.proofs.length.behind.Tie as tie
 
 add-result : tie.Need-add-result
 add-result c = search needs

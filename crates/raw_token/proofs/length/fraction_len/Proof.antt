@@ -1,4 +1,4 @@
--- `raw_token::fraction_len` meets its contract: the dot decides.
+-- `raw_token::length::fraction_len` meets its contract: the dot decides.
 -- Assumes nothing.
 use borrow.Author.Needs.{needs}
 use borrow.Author.Tests.{eq-eqb, ne-eqb}
@@ -8,8 +8,8 @@ use denote.Ref.{now}
 use Rattle.source.specs.Bytes.{run, digit}
 use Rattle.raw_token.specs.Pattern.{fraction, isDot}
 use Rattle.raw_token.proofs.Steps.{hit-inside, seq-hit, seq-miss, one-more}
-use Rattle.raw_token.proofs.fraction_len.Statement.{statement}
-use Rattle.raw_token.proofs.fraction_len.Tie as tie
+use Rattle.raw_token.proofs.length.fraction_len.Statement.{statement}
+use Rattle.raw_token.proofs.length.fraction_len.Tie as tie
 
 byte-requires : tie.Need-byte-requires
 byte-requires c κs = search needs

@@ -1,8 +1,8 @@
--- `raw_token::continues_name` meets its contract, by those of the two classes that it joins.
+-- `raw_token::length::continues_name` meets its contract, by those of the two classes that it joins.
 -- Assumes nothing.
 use borrow.Author.Needs.{needs}
-use Rattle.raw_token.proofs.continues_name.Statement.{statement}
-use Rattle.raw_token.proofs.continues_name.Tie as tie
+use Rattle.raw_token.proofs.length.continues_name.Statement.{statement}
+use Rattle.raw_token.proofs.length.continues_name.Tie as tie
 
 begins-name-requires : tie.Need-begins-name-requires
 begins-name-requires c κs = search needs

@@ -1,4 +1,4 @@
--- `raw_token::name_len` meets its contract: the first character decides.
+-- `raw_token::length::name_len` meets its contract: the first character decides.
 -- Assumes nothing.
 use borrow.Author.Needs.{needs}
 use native.Mathlib.Omega.{arith}
@@ -8,8 +8,8 @@ use denote.Ref.{now}
 use Rattle.raw_token.specs.Pattern.{beginsName}
 use Rattle.raw_token.proofs.Steps.{hit-inside}
 use Rattle.raw_token.proofs.Words.{name-some, name-none}
-use Rattle.raw_token.proofs.name_len.Statement.{statement}
-use Rattle.raw_token.proofs.name_len.Tie as tie
+use Rattle.raw_token.proofs.length.name_len.Statement.{statement}
+use Rattle.raw_token.proofs.length.name_len.Tie as tie
 
 byte-requires : tie.Need-byte-requires
 byte-requires c κs = search needs

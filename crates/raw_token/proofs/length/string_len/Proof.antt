@@ -1,4 +1,4 @@
--- `raw_token::string_len` meets its contract. The loop keeps: the string is what has been passed and then the rest of its body.
+-- `raw_token::length::string_len` meets its contract. The loop keeps: the string is what has been passed and then the rest of its body.
 -- Assumes nothing.
 use borrow.Author.Needs.{needs}
 use mathlib.Core.Path.{_≡_, sym, _∙_}
@@ -8,8 +8,8 @@ use lib.ListN.{length, drop}
 use denote.Ref.{now}
 use Rattle.raw_token.specs.Pattern.{behind, body, string}
 use Rattle.raw_token.proofs.Steps.{string-open, body-end, body-quote, body-plain, body-feed, body-escape, grow, close, open-end}
-use Rattle.raw_token.proofs.string_len.Statement.{statement}
-use Rattle.raw_token.proofs.string_len.Tie as tie
+use Rattle.raw_token.proofs.length.string_len.Statement.{statement}
+use Rattle.raw_token.proofs.length.string_len.Tie as tie
 
 abbrev Inv-loop : tie.InvT-loop
 Inv-loop s at q i₀ i = (at < i) × (string (drop at s) ≡ behind (i - at) (body q false (drop i s)))

@@ -1,4 +1,4 @@
--- `raw_token::int_len` meets its contract: the sign decides.
+-- `raw_token::length::int_len` meets its contract: the sign decides.
 -- Assumes nothing.
 use borrow.Author.Needs.{needs}
 use native.Mathlib.Omega.{arith}
@@ -7,8 +7,8 @@ use denote.Ref.{now}
 use Rattle.source.specs.Bytes.{run, digit}
 use Rattle.raw_token.specs.Pattern.{int, isSign}
 use Rattle.raw_token.proofs.Steps.{hit-inside, maybe-hit, maybe-miss, one-more}
-use Rattle.raw_token.proofs.int_len.Statement.{statement}
-use Rattle.raw_token.proofs.int_len.Tie as tie
+use Rattle.raw_token.proofs.length.int_len.Statement.{statement}
+use Rattle.raw_token.proofs.length.int_len.Tie as tie
 
 byte-requires : tie.Need-byte-requires
 byte-requires c κs = search needs
