@@ -9,7 +9,7 @@ use Prim.Native.Nat.{ℕ, zero, suc, _+_, _<_, _≤_}
 use native.Mathlib.Omega.{arith}
 use lib.Dec.{eqb, leb, ltb}
 use lib.ListN.{length, getD, drop}
-use borrow.Author.Tests.{eqb-true, ne-eqb, leb-true, le-leb}
+use borrow.Author.Tests.{eqb-true, leb-true, le-leb}
 use Rattle.source.specs.Bytes.{between, digit}
 use Rattle.source.proofs.Bools.{and-left, and-right, or-either, or-rest}
 use Rattle.source.proofs.Lists.{at-cons, inside}
@@ -17,7 +17,7 @@ use Rattle.source.proofs.Ranges.{at-each}
 use Rattle.token.specs.Code.{Int, String, Identifier, Float, Dot, Newline}
 use Rattle.raw_token.specs.Pattern as P
 use Rattle.raw_token.specs.Pattern.{beginsName, isSign, isQuote}
-use Rattle.raw_token.specs.Table.{Pattern, literal, int, string, name, float, len, Entry, table, longer, longest, found, tokenAt}
+use Rattle.raw_token.specs.Table.{Pattern, literal, int, string, name, float, len, Entry, table, longer, longest, tokenAt}
 use Rattle.raw_token.specs.declared.RawToken.the-variants.{Found, NoMatch}
 use Rattle.raw_token.proofs.First.{starts, miss, alike, single, nothing}
 use Rattle.raw_token.proofs.Within.{Best, found-best, token-within}

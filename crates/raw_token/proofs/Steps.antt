@@ -12,7 +12,7 @@ use lib.Dec.{eqb}
 use lib.Seq.{drop-drop}
 use borrow.Author.Tests.{eq-eqb, ne-eqb}
 use Rattle.source.specs.Bytes.{run, digit, Len}
-use Rattle.source.proofs.Lists.{at-cons, past, inside, place, run-le}
+use Rattle.source.proofs.Lists.{at-cons, past, inside, place}
 use Rattle.raw_token.specs.Pattern.{behind, one, seq, maybe, isPrefix, fraction, exponent, float, isQuote, body, string}
 
 pub behind-none : (k n : ℕ) → n ≡ 0 → behind k n ≡ 0

@@ -103,7 +103,7 @@ word-good b =
     (λ e. let h = eqb-true b 95 e in rw (le-leb 1 b (omega arith), le-leb b 255 (omega arith))))
     (between-good 48 57 b (omega arith) (omega arith))
 
--- the bytes of a run are words'
+-- the bytes of a run are good
 pub run-good : (l : List ℕ) → allIn good (take (run continuesName l) l) ≡ true
 run-good [] = refl
 run-good (b ∷ l) = go (continuesName b) (word-good b) (run-good l)

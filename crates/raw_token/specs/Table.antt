@@ -7,7 +7,10 @@ use mathlib.Core.List.{List, [], _∷_}
 use lib.Dec.{ltb, eqb}
 use lib.ListN.{drop}
 use Rattle.source.specs.Text.{bytes}
-use Rattle.token.specs.Code.{If, Elif, Else, While, For, In, Def, Return, And, Or, Not, Class, Break, Continue, Pass, Lambda, None, Bool, Int, String, Identifier, Float, Plus, Minus, Star, SlashSlash, Slash, Percent, EqualEqual, NotEqual, Less, LessEqual, Greater, GreaterEqual, Equal, LParen, RParen, LBracket, RBracket, LBrace, RBrace, Colon, Comma, Semicolon, Dot, Newline}
+use Rattle.token.specs.Code.{If, Elif, Else, While, For, In, Def, Return, And, Or, Not, Class, Break, Continue, Pass, Lambda}
+use Rattle.token.specs.Code.{None, Bool, Int, String, Identifier, Float}
+use Rattle.token.specs.Code.{Plus, Minus, Star, SlashSlash, Slash, Percent, EqualEqual, NotEqual, Less, LessEqual, Greater, GreaterEqual, Equal}
+use Rattle.token.specs.Code.{LParen, RParen, LBracket, RBracket, LBrace, RBrace, Colon, Comma, Semicolon, Dot, Newline}
 use Rattle.raw_token.specs.Pattern as P
 use Rattle.raw_token.specs.declared.RawToken.{RawToken}
 use Rattle.raw_token.specs.declared.RawToken.the-variants.{Found, NoMatch}
