@@ -48,7 +48,9 @@ pub fn lex_string(s: &[u8], text: &mut [u8], at: usize) -> Literal
     let last = s.len() - 1;
     let unquoted = &s[1..last];
     let end = strings::process_string_escapes(unquoted, text, at);
-    Literal::String(at as u32, (end - at) as u32)
+    let offset = at as u32;
+    let len = (end - at) as u32;
+    Literal::String(offset, len)
 }
 
 // The same literal, where the decoded bytes stand at `at` already.

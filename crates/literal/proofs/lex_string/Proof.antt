@@ -28,14 +28,14 @@ part-unquoted-end c = search needs
 process-string-escapes-requires : tie.Need-process-string-escapes-requires
 process-string-escapes-requires c κs = search needs
 
-cast-t12 : tie.Need-cast-t12
-cast-t12 c = search needs
+cast-offset : tie.Need-cast-offset
+cast-offset c = search needs
 
-sub-t7 : tie.Need-sub-t7
-sub-t7 c = search needs
+sub-len : tie.Need-sub-len
+sub-len c = search needs
 
-cast-t13 : tie.Need-cast-t13
-cast-t13 c =
+cast-len : tie.Need-cast-len
+cast-len c =
     let s = now (c .before .before .before .before .before .before .before .args .s) in
     record { fits = omega (arith, shorter s, c .before .before .process-string-escapes .ensures .0) }
 
@@ -59,8 +59,8 @@ lex-string-spec =
     part-unquoted-start
     part-unquoted-end
     process-string-escapes-requires
-    cast-t12
-    sub-t7
-    cast-t13
+    cast-offset
+    sub-len
+    cast-len
     same-length
     returns)
