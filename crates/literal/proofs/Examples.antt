@@ -28,7 +28,7 @@ not-admitted : lexFloat (bytes "1.0e24") ≡ Refused
 unfolding lexFloat decimalOf number place
 not-admitted = refl
 
--- 'a\n', four bytes between the quotes' ends and two of text
+-- 'a\n': three bytes between the quotes, and two of text
 line : lexString (bytes "'a\\n'") 7 ≡ L.String 7 2
 unfolding lexString decoded
 line = refl
