@@ -1,9 +1,9 @@
 -- What is admitted and what is not, and that digits that stop at a cap change neither: they are not admitted, as with all of them.
 -- Assumes nothing.
-use mathlib.Core.Path.{_≡_, refl, sym, ap, _∙_}
-use mathlib.Core.Bool.{Bool, true, false, cond, and-false}
+use mathlib.Core.Path.{_≡_, sym, ap, _∙_}
+use mathlib.Core.Bool.{Bool, true, false, and-false}
 use mathlib.Core.List.{List, []}
-use Prim.Native.Nat.{ℕ, suc, _+_, _-_, _^_, _≤_, _<_, min}
+use Prim.Native.Nat.{ℕ, _+_, _-_, _^_, _≤_, _<_, min}
 use native.Mathlib.Decide.{decLe}
 use native.Mathlib.Nat.{le-of-eq}
 use native.Mathlib.Numerals.{add-one}
@@ -17,7 +17,7 @@ use Rattle.numbers.specs.declared.decimal.Scale.the-variants.{Times, Ove
 use Rattle.numbers.specs.declared.decimal.Decimal.{Decimal}
 use Rattle.numbers.specs.declared.decimal.Decimal.the-variants.{Value, NotAdmitted}
 use Rattle.numbers.specs.Digits.{number, isMinus, place}
-use Rattle.numbers.specs.Decimal.{whole, scaleOf, valueOf, mantissa, afterDot, decimalOf}
+use Rattle.numbers.specs.Decimal.{whole, scaleOf, valueOf, afterDot, decimalOf}
 
 -- ---- the cases of the definition
 
@@ -59,13 +59,13 @@ far m false e places h =
     simp (le-leb places e s) (far-times m (e - places) (omega arith))
 
 pub exponents : (m : ℕ) (minus : Bool) (e places : ℕ) → valueOf m (scaleOf minus (min (limit minus places) e) places) ≡ valueOf m (scaleOf minus e places)
-exponents m minus e places = go (limit minus places) refl (decLe e (limit minus places))
+exponents m minus e places = go (decLe e (limit minus places))
   where
-    go : (n : ℕ) → n ≡ limit minus places → Dec (e ≤ limit minus places) → valueOf m (scaleOf minus (min (limit minus places) e) places) ≡ valueOf m (scaleOf minus e places)
-    go n q (yes h) =
+    go : Dec (e ≤ limit minus places) → valueOf m (scaleOf minus (min (limit minus places) e) places) ≡ valueOf m (scaleOf minus e places)
+    go (yes h) =
         let r : min (limit minus places) e ≡ e = omega arith in
         ap (λ (k : ℕ). valueOf m (scaleOf minus k places)) r
-    go n q (no h) = sym (far m minus (min (limit minus places) e) places (omega arith)) ∙ far m minus e places (omega arith)
+    go (no h) = sym (far m minus (min (limit minus places) e) places (omega arith)) ∙ far m minus e places (omega arith)
 
 -- ---- a token's text
 

@@ -9,7 +9,7 @@ use super::digits::find;
 use super::digits::joined;
 
 // 10 ^ p: a factor for p at least 0, else a divisor.
-pub enum Scale {
+enum Scale {
     Times(u64),
     Over(u64),
 }

@@ -1,6 +1,5 @@
 // The value of an Int: a sign, or none, and digits, of any number.
 ghost use mathlib.Core.Path.{_≡_};
-ghost use Prim.Native.Nat.{_≤_};
 ghost use lib.IntN.{pos, negℤ};
 ghost use Rattle.numbers.specs.Integer.{inRange, integerOf};
 use super::digits::joined;

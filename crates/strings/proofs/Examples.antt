@@ -1,7 +1,7 @@
 -- The definition at a few texts, computed.
 -- Assumes nothing.
 use mathlib.Core.Path.{_≡_, refl}
-use mathlib.Core.List.{[], _∷_, _++_}
+use mathlib.Core.List.{[], _∷_}
 use Rattle.source.specs.Text.{bytes}
 use Rattle.strings.specs.Decoded.{decoded}
 

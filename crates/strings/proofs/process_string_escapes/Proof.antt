@@ -57,8 +57,13 @@ loop-less c = search needs
 loop-again : tie.Need-loop-again Inv-loop μ-loop
 loop-again c =
     let a = c .before .before .before .before .before .before .before .before .before .before .args in
-    let l = c .before .before .before .before .before .before .before .loop in
-    (search needs, simp length-set (l .inv .1), simp length-set (omega arith), two-bytes (now (a .s)) (a .at) (now (a .text)) (l .i) (l .o) (l .text) (l .inv .3) (l .i + 2) _ _ (kept (now (a .s)) (l .i) (c .before .before .before .before .if1 .taken) (c .before .before .before .if2 .taken) (sym (c .before .unescaped .ensures) ∙ c .if3 .taken)))
+    let l = c .before .before .before .before .before .before .before .loop in (
+      search needs,
+      simp length-set (l .inv .1),
+      simp length-set (omega arith),
+      two-bytes (now (a .s)) (a .at) (now (a .text)) (l .i) (l .o) (l .text) (l .inv .3) (l .i + 2) _ _
+          (kept (now (a .s)) (l .i) (c .before .before .before .before .if1 .taken) (c .before .before .before .if2 .taken) (sym (c .before .unescaped .ensures) ∙ c .if3 .taken)),
+    )
 
 slice-write-text-3 : tie.Need-slice-write-text-3 Inv-loop μ-loop
 slice-write-text-3 c = search needs
@@ -75,8 +80,13 @@ loop-less-2 c = search needs
 loop-again-2 : tie.Need-loop-again-2 Inv-loop μ-loop
 loop-again-2 c =
     let a = c .before .before .before .before .before .before .before .before .before .before .args in
-    let l = c .before .before .before .before .before .before .before .loop in
-    (search needs, simp length-set (l .inv .1), simp length-set (omega arith), one-byte (now (a .s)) (a .at) (now (a .text)) (l .i) (l .o) (l .text) (l .inv .3) (l .i + 2) _ (replaced (now (a .s)) (l .i) (c .before .before .before .before .if1 .taken) (c .before .before .before .if2 .taken) _ (c .before .unescaped .ensures) (c .if3 .left)))
+    let l = c .before .before .before .before .before .before .before .loop in (
+      search needs,
+      simp length-set (l .inv .1),
+      simp length-set (omega arith),
+      one-byte (now (a .s)) (a .at) (now (a .text)) (l .i) (l .o) (l .text) (l .inv .3) (l .i + 2) _
+          (replaced (now (a .s)) (l .i) (c .before .before .before .before .if1 .taken) (c .before .before .before .if2 .taken) _ (c .before .unescaped .ensures) (c .if3 .left)),
+    )
 
 slice-write-text-4 : tie.Need-slice-write-text-4 Inv-loop μ-loop
 slice-write-text-4 c = search needs
@@ -93,8 +103,13 @@ loop-less-3 c = search needs
 loop-again-3 : tie.Need-loop-again-3 Inv-loop μ-loop
 loop-again-3 c =
     let a = c .before .before .before .before .before .before .before .args in
-    let l = c .before .before .before .before .loop in
-    (search needs, simp length-set (l .inv .1), simp length-set (omega arith), one-byte (now (a .s)) (a .at) (now (a .text)) (l .i) (l .o) (l .text) (l .inv .3) (l .i + 1) _ (alone (now (a .s)) (l .i) (c .before .if1 .taken) (c .before .before .before .loop-test .taken) (c .if2 .left)))
+    let l = c .before .before .before .before .loop in (
+      search needs,
+      simp length-set (l .inv .1),
+      simp length-set (omega arith),
+      one-byte (now (a .s)) (a .at) (now (a .text)) (l .i) (l .o) (l .text) (l .inv .3) (l .i + 1) _
+          (alone (now (a .s)) (l .i) (c .before .if1 .taken) (c .before .before .before .loop-test .taken) (c .if2 .left)),
+    )
 
 slice-write-text-5 : tie.Need-slice-write-text-5 Inv-loop μ-loop
 slice-write-text-5 c = search needs
@@ -111,8 +126,13 @@ loop-less-4 c = search needs
 loop-again-4 : tie.Need-loop-again-4 Inv-loop μ-loop
 loop-again-4 c =
     let a = c .before .before .before .before .before .before .args in
-    let l = c .before .before .before .loop in
-    (search needs, simp length-set (l .inv .1), simp length-set (omega arith), one-byte (now (a .s)) (a .at) (now (a .text)) (l .i) (l .o) (l .text) (l .inv .3) (l .i + 1) _ (plain (now (a .s)) (l .i) (c .before .before .loop-test .taken) (c .if1 .left)))
+    let l = c .before .before .before .loop in (
+      search needs,
+      simp length-set (l .inv .1),
+      simp length-set (omega arith),
+      one-byte (now (a .s)) (a .at) (now (a .text)) (l .i) (l .o) (l .text) (l .inv .3) (l .i + 1) _
+          (plain (now (a .s)) (l .i) (c .before .before .loop-test .taken) (c .if1 .left)),
+    )
 
 same-length : tie.Need-same-length Inv-loop μ-loop
 same-length c = c .before .loop .inv .1

@@ -30,7 +30,8 @@ returns-6 c = rw (c .match .keys6)
 
 returns-7 : tie.Need-returns-7
 returns-7 c =
-    let none = arm (39 ∷ 34 ∷ 92 ∷ 114 ∷ 116 ∷ 110 ∷ []) (λ (x : ℕ). eqb (unescape x) 0) 0 256 tt (c .before .args .b) zero-le (c .before .fits .b .fits) (c .match .rest) in
+    let none = arm (39 ∷ 34 ∷ 92 ∷ 114 ∷ 116 ∷ 110 ∷ []) (λ (x : ℕ). eqb (unescape x) 0) 0 256 tt
+    (c .before .args .b) zero-le (c .before .fits .b .fits) (c .match .rest) in
     sym (eqb-true (unescape (c .before .args .b)) 0 none)
 
 pub unescaped-spec : {M : Type 1} → statement M

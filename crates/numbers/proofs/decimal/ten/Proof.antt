@@ -100,7 +100,8 @@ returns-22 c = rw (c .match .keys22)
 returns-23 : tie.Need-returns-23
 unfolding ofBits ofInt
 returns-23 c =
-    let last = arm (21 ∷ 20 ∷ 19 ∷ 18 ∷ 17 ∷ 16 ∷ 15 ∷ 14 ∷ 13 ∷ 12 ∷ 11 ∷ 10 ∷ 9 ∷ 8 ∷ 7 ∷ 6 ∷ 5 ∷ 4 ∷ 3 ∷ 2 ∷ 1 ∷ 0 ∷ []) (λ (x : ℕ). eqb x 22) 0 23 tt (c .before .args .k) zero-le (suc-le-suc (c .before .pre)) (c .match .rest) in
+    let last = arm (21 ∷ 20 ∷ 19 ∷ 18 ∷ 17 ∷ 16 ∷ 15 ∷ 14 ∷ 13 ∷ 12 ∷ 11 ∷ 10 ∷ 9 ∷ 8 ∷ 7 ∷ 6 ∷ 5 ∷ 4 ∷ 3 ∷ 2 ∷ 1 ∷ 0 ∷ [])
+    (λ (x : ℕ). eqb x 22) 0 23 tt (c .before .args .k) zero-le (suc-le-suc (c .before .pre)) (c .match .rest) in
     rw (eqb-true (c .before .args .k) 22 last)
 
 pub ten-spec : {M : Type 1} → statement M
