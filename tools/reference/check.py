@@ -8,7 +8,7 @@ import random
 import time
 
 import generate
-from check_answers import scripts_of_01, slices, utf8_places
+from check_answers import counted, scripts_of_01, slices, utf8_places
 from descent import descent
 from read import with_deep_stack
 from scan import Code, Refusal, Token, scan
@@ -58,6 +58,9 @@ def compare(source):
     except Refusal as no:
         number = no.number
     else:
+        # A level changes only before a token that is no Newline, or at the end.
+        assert not any(token.code in (Code.Indent, Code.Dedent) and after.code == Code.Newline
+                       for token, after in zip(tokens, tokens[1:])), source
         number = agree(tokens, source).number
     tally[number] = tally.get(number, 0) + 1
     return number
@@ -138,7 +141,7 @@ def walks():
     that it doesn't, then finished, and with one token exchanged."""
     rng = random.Random(3)
     cases = 0
-    for _ in range(800):
+    for _ in range(400):
         sorts = ()
         for _ in range(rng.randrange(10, 90)):
             longer = sorts + (rng.choice(SORTS),)
@@ -218,9 +221,16 @@ def deep():
 
 def main():
     parts = [
-        ("scripts of 01", scripts_of_01), ("slices", slices), ("UTF-8 places", utf8_places),
-        ("short strings", short_strings), ("token lists", lambda: token_lists(4)),
-        ("walks", walks), ("remembering", remembering), ("soups", soups), ("grammatical and damaged scripts", grammatical_and_damaged),
+        ("scripts of 01", scripts_of_01),
+        ("counts by hand", counted),
+        ("slices", slices),
+        ("UTF-8 places", utf8_places),
+        ("short strings", short_strings),
+        ("token lists", lambda: token_lists(4)),
+        ("walks", walks),
+        ("remembering", remembering),
+        ("soups", soups),
+        ("grammatical and damaged scripts", grammatical_and_damaged),
         ("deep nesting", deep),
     ]
     for name, part in parts:

@@ -2,8 +2,9 @@
 import itertools
 
 import generate
+from descent import descent
 from read import Answer, areas, program, read
-from scan import Refusal, utf8
+from scan import Refusal, scan, utf8
 from tree import END, NONE, P, Q, R, START, Kind
 
 
@@ -84,6 +85,44 @@ def scripts_of_01():
     refused(b"if a: b\n\nelse: c\n", 14, 9)
     accepted(b"if a:\n  b\n\nelse: c\n")
     return 27
+
+
+# Source; number, place, openings and nodes written, counted by hand from the sentences:
+# "Descent opens a rule only on a token that can begin it", "the opening that 13 refuses isn't
+# counted", "a node is complete once its required parts are read and the next token begins no
+# further one". A statement's expression opens Line, Simple and the eight from E to F.
+COUNTED = [
+    (b"a", 0, 0, 11, 3),
+    (b"a b", 14, 2, 11, 2),
+    (b"(", 14, 1, 11, 0),
+    (b"not", 14, 3, 10, 0),
+    (b"a or", 14, 4, 11, 1),
+    (b"a + b * )", 14, 8, 14, 2),
+    (b"a < b <", 14, 7, 15, 3),
+    (b"a, b )", 14, 5, 19, 4),
+    (b"a, )", 14, 3, 11, 2),
+    (b"a, b = )", 14, 7, 19, 3),
+    (b"lambda a b", 14, 9, 4, 1),
+    (b"lambda", 14, 6, 4, 0),
+    (b"if a: b\nelif", 14, 12, 20, 3),
+    (b"if a: b\n)", 14, 8, 20, 4),
+    (b"class", 14, 5, 3, 0),
+    (b"class A:\n  def f(): a\n)", 14, 22, 13, 4),
+    (b"class A:\n  def f(): a\n\n", 14, 22, 13, 3),
+    (b"def f", 14, 5, 2, 0),
+    (b"t{", 14, 2, 11, 0),
+    (b"f(())", 14, 5, 19, 2),
+    (b"{a: b, c}", 14, 8, 35, 4),
+    (b"(" * 64 + b"a", 13, 64, 3 + 64 * 8, 0),
+    (b"(" * 64 + b"]", 14, 64, 3 + 64 * 8, 0),
+]
+
+
+def counted():
+    for source, *expected in COUNTED:
+        done = descent(scan(source)[0])
+        assert [*done[:3], len(done.nodes)] == expected, (source, done)
+    return len(COUNTED)
 
 
 def slices():

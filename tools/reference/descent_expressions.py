@@ -7,8 +7,13 @@ that can begin it and decides by the next token, `{` after its first E".
 Each rule is the method of its name, called through `open` alone. Nodes are written
 once, in order, and never taken back.
 """
+import sys
+
 from scan import Code, Refusal
 from tree import BINARY, END, LITERALS, NEXT, NONE, START, UNARY, Kind, literal
+
+# 64 E open at once are some 1,200 calls of Python's.
+sys.setrecursionlimit(max(10_000, sys.getrecursionlimit()))
 
 # "A token can begin a rule when some reading of the rule starts with it".
 BEGINS_F = frozenset(LITERALS + (Code.LBracket, Code.LBrace, Code.LParen, Code.Identifier))

@@ -191,7 +191,8 @@ class Writer:
         return self.t()
 
     def t(self):
-        return self.commas([self.expr(self.rng.choice((0, 1, 1, 2))) for _ in range(self.rng.choice((1, 1, 1, 2, 3)))])
+        count = self.rng.choice((1, 1, 1, 2, 3))
+        return self.commas([self.expr(self.rng.choice((0, 1, 1, 2))) for _ in range(count)])
 
     def commas(self, members):
         """Members with commas between, and sometimes one trailing."""

@@ -117,7 +117,7 @@ def picked():
         yield spelling
         yield spelling + b"x"
         yield b"(" + spelling + b"1"
-    # n at most 65,536, and deep levels
+    # many levels, closed at the end and closed by a line
     yield b"".join(b"  " * level + b"a\n" for level in range(40))
     yield b"".join(b"  " * level + b"a\n" for level in range(40)) + b"b"
 
