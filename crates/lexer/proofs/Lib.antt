@@ -1,0 +1,8 @@
+pub mod Gaps
+pub mod Levels
+pub mod Writing
+pub mod Turning
+pub mod Values
+pub mod Finding
+pub mod Enough
+pub mod Running

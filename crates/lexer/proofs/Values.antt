@@ -1,0 +1,72 @@
+-- The value and the text of a token, by its code.
+-- Assumes nothing.
+use mathlib.Core.Path.{_≡_, refl, sym, ap, _∙_}
+use mathlib.Core.Bool.{Bool, true, false, cond}
+use mathlib.Core.List.{List, [], _∷_}
+use Prim.Native.Nat.{ℕ, zero, suc, _+_, _-_, _≤_}
+use native.Mathlib.Omega.{arith}
+use lib.Dec.{eqb}
+use lib.ListN.{length, getD, take, drop, length-drop, length-take}
+use lib.Seq.{sets, take-take, take-nil, drop-drop}
+use borrow.Author.Tests.{ne-eqb}
+use Rattle.source.specs.Bytes.{part}
+use Rattle.strings.specs.Decoded.{decoded}
+use Rattle.token.specs.Code as Code
+use Rattle.literal.specs.Literal.{lexInteger, lexFloat, lexString, unquoted}
+use Rattle.literal.specs.declared.Literal.{Literal}
+use Rattle.literal.specs.declared.Literal.the-variants as L
+use Rattle.literal.specs.declared.Lexed.{Lexed}
+use Rattle.literal.specs.declared.Lexed.the-variants.{Value, Refused}
+use Rattle.lexer.specs.Value.{valueOf, textOf}
+use Rattle.lexer.specs.Steps.{takenOf}
+use Rattle.lexer.specs.declared.value.Taken.{Taken}
+use Rattle.lexer.specs.declared.value.Taken.the-variants as K
+
+pub length-part : (s : List ℕ) (start end : ℕ) → end ≤ length s → length (part s start end) ≡ end - start
+length-part s start end h = length-take (end - start) (drop start s) ∙ omega (arith, length-drop start s)
+
+drop-take : (k n : ℕ) (l : List ℕ) → drop k (take n l) ≡ take (n - k) (drop k l)
+drop-take zero n l = let e : n - 0 ≡ n = omega arith in rw e
+drop-take (suc k) zero l = let e : 0 - suc k ≡ 0 = omega arith in rw e
+drop-take (suc k) (suc n) [] = sym (take-nil (suc n - suc k))
+drop-take (suc k) (suc n) (b ∷ l) = let e : suc n - suc k ≡ n - k = omega arith in rw e (drop-take k n l)
+
+-- what stands between the quotes of a part is a part
+pub unquoted-part : (s : List ℕ) (start end : ℕ) → start + 2 ≤ end → end ≤ length s → unquoted (part s start end) ≡ part s (start + 1) (end - 1)
+unquoted-part s start end h k =
+    let m : length (part s start end) - 1 - 1 ≡ end - 1 - (start + 1) = omega (arith, length-part s start end k) in
+    rw (m, drop-take 1 (end - start) (drop start s), drop-drop 1 start s) (take-take (end - 1 - (start + 1)) (end - start - 1) (drop (start + 1) s) (omega arith))
+
+-- what a function has done that took the value v and wrote the text bs
+abbrev pub Took : ℕ → List ℕ → ℕ → List ℕ → Taken → List ℕ → Type 0
+Took code l used text r text′ =
+    (r ≡ takenOf (valueOf code l used) (used + length (textOf code l))) × (text′ ≡ sets text used (textOf code l))
+
+either-used : (t : Bool) (v w : Literal) (used : ℕ) → takenOf (cond t (Value v) (Value w)) used ≡ K.Used used
+either-used true v w used = refl
+either-used false v w used = refl
+
+module _ (code : ℕ) (l : List ℕ) (used : ℕ) (text : List ℕ) where
+  took : (v : Lexed) (bs : List ℕ) (r : Taken) (text′ : List ℕ) → valueOf code l used ≡ v → textOf code l ≡ bs → r ≡ takenOf v (used + length bs) → text′ ≡ sets text used bs → Took code l used text r text′
+  took v bs r text′ e f a b = rw (e, f) (a, b)
+
+  used-same : (v : Lexed) (w : Lexed) → v ≡ w → takenOf w used ≡ takenOf v (used + 0)
+  used-same v w e = rw e (ap (takenOf w) (omega arith))
+
+  pub took-int : code ≡ Code.Int → (v : Lexed) → lexInteger l ≡ v → Took code l used text (takenOf v used) text
+  unfolding valueOf textOf
+  took-int e v q = took v [] (takenOf v used) text (rw e q) (rw e) (used-same v v refl) refl
+
+  pub took-float : code ≡ Code.Float → (v : Lexed) → lexFloat l ≡ v → Took code l used text (takenOf v used) text
+  unfolding valueOf textOf
+  took-float e v q = took v [] (takenOf v used) text (rw e q) (rw e) (used-same v v refl) refl
+
+  pub took-string : code ≡ Code.String → (r : ℕ) (text′ : List ℕ) → r ≡ used + length (decoded (unquoted l)) → text′ ≡ sets text used (decoded (unquoted l)) → Took code l used text (K.Used r) text′
+  unfolding valueOf textOf
+  took-string e r text′ a b = took (Value (lexString l used)) (decoded (unquoted l)) (K.Used r) text′ (rw e) (rw e) (ap K.Used a) b
+
+  pub took-none : (code ≡ Code.Int → ⊥) → (code ≡ Code.Float → ⊥) → (code ≡ Code.String → ⊥) → Took code l used text (K.Used used) text
+  unfolding valueOf textOf
+  took-none a b d =
+      rw (ne-eqb code Code.Int a, ne-eqb code Code.Float b, ne-eqb code Code.String d)
+      (sym (either-used (eqb code Code.Bool) (L.Bool (eqb (getD l 0 0) 84)) L.None (used + 0) ∙ ap K.Used (omega arith)), refl)

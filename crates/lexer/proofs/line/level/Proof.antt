@@ -1,0 +1,39 @@
+-- `lexer::line::level` meets its contract, case by case.
+-- Assumes nothing.
+use borrow.Author.Needs.{needs}
+use Rattle.lexer.proofs.Levels.{level-same, level-deeper, level-far, level-back, level-between}
+use Rattle.lexer.proofs.line.level.Statement.{statement}
+use Rattle.lexer.proofs.line.level.Tie as tie
+
+sub-spaces : tie.Need-sub-spaces
+sub-spaces c = search needs
+
+returns : tie.Need-returns
+returns c = level-same (c .before .args .at) (c .before .args .end) (c .before .args .top) (c .if1 .taken)
+
+add-if3 : tie.Need-add-if3
+add-if3 c = search needs
+
+returns-2 : tie.Need-returns-2
+returns-2 c =
+    let a = c .before .before .before .args in
+    level-deeper (a .at) (a .end) (a .top) (c .before .before .if1 .left) (c .before .if2 .taken) (c .if3 .taken)
+
+returns-3 : tie.Need-returns-3
+returns-3 c =
+    let a = c .before .before .before .args in
+    level-far (a .at) (a .end) (a .top) (c .before .before .if1 .left) (c .before .if2 .taken) (c .if3 .left)
+
+returns-4 : tie.Need-returns-4
+returns-4 c =
+    let a = c .before .before .before .args in
+    level-back (a .at) (a .end) (a .top) (c .before .before .if1 .left) (c .before .if2 .left) (c .if4 .taken)
+
+returns-5 : tie.Need-returns-5
+returns-5 c =
+    let a = c .before .before .before .args in
+    level-between (a .at) (a .end) (a .top) (c .before .before .if1 .left) (c .before .if2 .left) (c .if4 .left)
+
+pub level-spec : {M : Type 1} → statement M
+level-spec =
+    tie.close (tie.spec sub-spaces returns add-if3 returns-2 returns-3 returns-4 returns-5)

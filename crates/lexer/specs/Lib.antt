@@ -1,0 +1,6 @@
+pub mod Gap
+pub mod Indentation
+pub mod Value
+pub mod Scan
+pub mod Words
+pub mod Steps
