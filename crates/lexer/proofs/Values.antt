@@ -37,6 +37,33 @@ unquoted-part s start end h k =
     let m : length (part s start end) - 1 - 1 ≡ end - 1 - (start + 1) = omega (arith, length-part s start end k) in
     rw (m, drop-take 1 (end - start) (drop start s), drop-drop 1 start s) (take-take (end - 1 - (start + 1)) (end - start - 1) (drop (start + 1) s) (omega arith))
 
+-- ---- the value by its code
+
+module _ (code : ℕ) (l : List ℕ) (used : ℕ) where
+  pub value-bool : code ≡ Code.Bool → valueOf code l used ≡ Value (L.Bool (eqb (getD l 0 0) 84))
+  unfolding valueOf
+  value-bool e = rw e
+
+  pub value-int : code ≡ Code.Int → valueOf code l used ≡ lexInteger l
+  unfolding valueOf
+  value-int e = rw e
+
+  pub value-float : code ≡ Code.Float → valueOf code l used ≡ lexFloat l
+  unfolding valueOf
+  value-float e = rw e
+
+  pub value-string : code ≡ Code.String → valueOf code l used ≡ Value (lexString l used)
+  unfolding valueOf
+  value-string e = rw e
+
+  module _ (a : code ≡ Code.Int → ⊥) (b : code ≡ Code.Float → ⊥) (d : code ≡ Code.String → ⊥) where
+    bool-or-none : valueOf code l used ≡ cond (eqb code Code.Bool) (Value (L.Bool (eqb (getD l 0 0) 84))) (Value L.None)
+    unfolding valueOf
+    bool-or-none = rw (ne-eqb code Code.Int a, ne-eqb code Code.Float b, ne-eqb code Code.String d)
+
+    pub value-none : (code ≡ Code.Bool → ⊥) → valueOf code l used ≡ Value L.None
+    value-none e = bool-or-none ∙ rw (ne-eqb code Code.Bool e)
+
 -- what a function has done that took the value v and wrote the text bs
 abbrev pub Took : ℕ → List ℕ → ℕ → List ℕ → Taken → List ℕ → Type 0
 Took code l used text r text′ =
@@ -54,19 +81,19 @@ module _ (code : ℕ) (l : List ℕ) (used : ℕ) (text : List ℕ) where
   used-same v w e = rw e (ap (takenOf w) (omega arith))
 
   pub took-int : code ≡ Code.Int → (v : Lexed) → lexInteger l ≡ v → Took code l used text (takenOf v used) text
-  unfolding valueOf textOf
-  took-int e v q = took v [] (takenOf v used) text (rw e q) (rw e) (used-same v v refl) refl
+  unfolding textOf
+  took-int e v q = took v [] (takenOf v used) text (value-int code l used e ∙ q) (rw e) (used-same v v refl) refl
 
   pub took-float : code ≡ Code.Float → (v : Lexed) → lexFloat l ≡ v → Took code l used text (takenOf v used) text
-  unfolding valueOf textOf
-  took-float e v q = took v [] (takenOf v used) text (rw e q) (rw e) (used-same v v refl) refl
+  unfolding textOf
+  took-float e v q = took v [] (takenOf v used) text (value-float code l used e ∙ q) (rw e) (used-same v v refl) refl
 
   pub took-string : code ≡ Code.String → (r : ℕ) (text′ : List ℕ) → r ≡ used + length (decoded (unquoted l)) → text′ ≡ sets text used (decoded (unquoted l)) → Took code l used text (K.Used r) text′
-  unfolding valueOf textOf
-  took-string e r text′ a b = took (Value (lexString l used)) (decoded (unquoted l)) (K.Used r) text′ (rw e) (rw e) (ap K.Used a) b
+  unfolding textOf
+  took-string e r text′ a b = took (Value (lexString l used)) (decoded (unquoted l)) (K.Used r) text′ (value-string code l used e) (rw e) (ap K.Used a) b
 
   pub took-none : (code ≡ Code.Int → ⊥) → (code ≡ Code.Float → ⊥) → (code ≡ Code.String → ⊥) → Took code l used text (K.Used used) text
-  unfolding valueOf textOf
+  unfolding textOf
   took-none a b d =
-      rw (ne-eqb code Code.Int a, ne-eqb code Code.Float b, ne-eqb code Code.String d)
-      (sym (either-used (eqb code Code.Bool) (L.Bool (eqb (getD l 0 0) 84)) L.None (used + 0) ∙ ap K.Used (omega arith)), refl)
+      took (cond (eqb code Code.Bool) (Value (L.Bool (eqb (getD l 0 0) 84))) (Value L.None)) [] (K.Used used) text (bool-or-none code l used a b d) (rw (ne-eqb code Code.String d))
+      (sym (either-used (eqb code Code.Bool) (L.Bool (eqb (getD l 0 0) 84)) L.None (used + 0) ∙ ap K.Used (omega arith))) refl

@@ -6,6 +6,7 @@ mod put;
 mod skip;
 mod value;
 
+pub use value::literal_of;
 ghost use mathlib.Core.Path.{_≡_};
 ghost use mathlib.Core.List.{List};
 ghost use Prim.Native.Nat.{ℕ, _+_, _≤_, _<_};

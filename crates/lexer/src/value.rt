@@ -47,3 +47,28 @@ pub fn take_value(
         _ => Taken::Used(used),
     }
 }
+
+fn value_in(v: Lexed) -> Literal
+    ensures { λ r. ⌜ r ≡ literalIn v ⌝ }
+{
+    match v {
+        Lexed::Value(l) => l,
+        Lexed::Refused => Literal::None,
+    }
+}
+
+// The literal of the token with this code from start to end, where `used` bytes of text stand before it: what the token list has for it.
+pub fn literal_of(src: &[u8], code: u32, start: usize, end: usize, used: u32) -> Literal
+    requires { ⌜ (start ≤ end) × (end ≤ length (now src)) × (length (now src) < 2 ^ 32) ⌝ }
+    requires { ⌜ (code ≡ String → start + 2 ≤ end) ⌝ }
+    ensures { λ r. ⌜ r ≡ literalIn (valueOf code (part (now (src .entry)) start end) used) ⌝ }
+{
+    let bytes = &src[start..end];
+    match code {
+        token::BOOL => Literal::Bool(source::byte(bytes, 0) == b'T'),
+        token::INT => value_in(literal::lex_integer(bytes)),
+        token::FLOAT => value_in(literal::lex_float(bytes)),
+        token::STRING => literal::string_literal(bytes, used),
+        _ => Literal::None,
+    }
+}
