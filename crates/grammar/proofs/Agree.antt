@@ -139,7 +139,7 @@ module _ {Act : Type 0} {M : Machine Act} where
   not-if true s f = absurd (f tt)
   not-if false s f = refl
 
-  not-taken : (set : List ℕ) (s : St M) → (Sees set (s .rest) → ⊥) → takeP set s ≡ fail
+  pub not-taken : (set : List ℕ) (s : St M) → (Sees set (s .rest) → ⊥) → takeP set s ≡ fail
   unfolding takeP takeFrom
   not-taken set s f = from (s .rest) (s .kept) f
     where

@@ -1,12 +1,14 @@
 -- Laws of the trial: alternatives that begin alike may be taken together. They hold of any parts, and ask nothing of what follows.
 -- Assumes nothing.
-use mathlib.Core.Path.{_≡_, refl, ap, sym, _∙_, fun-ext}
+use mathlib.Core.Path.{_≡_, refl, ap, sym, subst, _∙_, fun-ext}
 use mathlib.Core.Bool.{Bool, true, false, _||_}
 use mathlib.Core.List.{List, [], _∷_}
 use Prim.Native.Nat.{ℕ}
 use lib.Dec.{T, eqb, eqb→eq}
-use Rattle.grammar.specs.Sets.{mem}
-use Rattle.grammar.specs.Trial.{Machine, St, Out, ok, fail, out, Parser, andThen, orElse, seqP, altP, okIf, takeFrom, takeP, actP}
+use Rattle.grammar.specs.Sets.{mem, sees, apart}
+use Rattle.grammar.specs.Trial.{Machine, St, Out, ok, fail, out, Parser, andThen, orElse, seqP, altP, okIf, skipP, takeFrom, takeP, actP}
+use Rattle.grammar.proofs.Sets.{Sees, sees-apart}
+use Rattle.grammar.proofs.Agree.{not-taken}
 
 module _ {Act : Type 0} {M : Machine Act} where
   then-assoc : (o : Out M) (q r : Parser M) → andThen (andThen o q) r ≡ andThen o (seqP q r)
@@ -49,6 +51,23 @@ module _ {Act : Type 0} {M : Machine Act} where
   -- the same before a further alternative
   pub factor-more : (p a b c : Parser M) → altP (seqP p a) (altP (seqP p b) c) ≡ altP (seqP p (altP a b)) c
   factor-more p a b c = sym (alt-assoc (seqP p a) (seqP p b) c) ∙ ap (λ (q : Parser M). altP q c) (factor p a b)
+
+  -- p a / p is p (a / nothing)
+  then-skip : (o : Out M) → andThen o skipP ≡ o
+  unfolding andThen skipP
+  then-skip (ok s) = refl
+  then-skip fail = refl
+  then-skip out = refl
+
+  seq-skip : (p : Parser M) → seqP p skipP ≡ p
+  unfolding seqP
+  seq-skip p = fun-ext (λ s. then-skip (p s))
+
+  pub factor-end : (p a : Parser M) → altP (seqP p a) p ≡ seqP p (altP a skipP)
+  factor-end p a = ap (λ (q : Parser M). altP (seqP p a) q) (sym (seq-skip p)) ∙ factor p a skipP
+
+  pub factor-end-more : (p a c : Parser M) → altP (seqP p a) (altP p c) ≡ altP (seqP p (altP a skipP)) c
+  factor-end-more p a c = sym (alt-assoc (seqP p a) p c) ∙ ap (λ (q : Parser M). altP q c) (factor-end p a)
 
   -- a / b / (p or nothing) y is a / b / p y, where y cannot follow at once once a has failed
   else-fail : (o : Out M) (q : Parser M) (s : St M) → orElse o q s ≡ fail → o ≡ fail
@@ -102,6 +121,36 @@ module _ {Act : Type 0} {M : Machine Act} where
       ∙ absent (altP (seqP (takeP set) (actP d)) b) p (actP k) (seqP (takeP set) z) (λ s e. shut set d k z s (else-fail (seqP (takeP set) (actP d) s) b s e))
       ∙ alt-assoc (seqP (takeP set) (actP d)) b (seqP p (seqP (takeP set) z))
 
+  -- the same where b is that part
+  pub shut-next : (set : List ℕ) (d k : Act) (p z c : Parser M) →
+      altP (seqP (takeP set) (actP d)) (altP (seqP (altP p (actP k)) (seqP (takeP set) z)) c) ≡ altP (seqP (takeP set) (actP d)) (altP (seqP p (seqP (takeP set) z)) c)
+  shut-next set d k p z c =
+      sym (alt-assoc (seqP (takeP set) (actP d)) (seqP (altP p (actP k)) (seqP (takeP set) z)) c)
+      ∙ ap (λ (q : Parser M). altP q c) (absent (seqP (takeP set) (actP d)) p (actP k) (seqP (takeP set) z) (shut set d k z))
+      ∙ alt-assoc (seqP (takeP set) (actP d)) (seqP p (seqP (takeP set) z)) c
+
+  -- Two alternatives of which one fails at every state may change places: so do two that begin with different tokens.
+  swap-at : (p q c : Parser M) (s : St M) → p s ≡ fail → orElse (p s) (altP q c) s ≡ orElse (q s) (altP p c) s
+  unfolding orElse altP
+  swap-at p q c s e = rw e (from (q s))
+    where
+      from : (o : Out M) → orElse o c s ≡ orElse o (altP p c) s
+      from (ok s′) = refl
+      from fail = rw e refl
+      from out = refl
+
+  none-taken : (set : List ℕ) (z : Parser M) (s : St M) → (Sees set (s .rest) → ⊥) → seqP (takeP set) z s ≡ fail
+  unfolding seqP andThen
+  none-taken set z s f = rw (not-taken set s f) refl
+
+  pub swap : (a b : List ℕ) (x y c : Parser M) → T (apart a b) → altP (seqP (takeP a) x) (altP (seqP (takeP b) y) c) ≡ altP (seqP (takeP b) y) (altP (seqP (takeP a) x) c)
+  unfolding altP
+  swap a b x y c h = fun-ext (λ s. at s (sees a (s .rest)) refl)
+    where
+      at : (s : St M) (m : Bool) → sees a (s .rest) ≡ m → altP (seqP (takeP a) x) (altP (seqP (takeP b) y) c) s ≡ altP (seqP (takeP b) y) (altP (seqP (takeP a) x) c) s
+      at s true e = sym (swap-at (seqP (takeP b) y) (seqP (takeP a) x) c s (none-taken b y s (λ k. sees-apart h (record { holds = subst T (sym e) tt }) k)))
+      at s false e = swap-at (seqP (takeP a) x) (seqP (takeP b) y) c s (none-taken a x s (λ k. subst T e (k .holds)))
+
   -- One token of several is the first, or one of the others. The first is none of the others, so what follows it cannot make a difference.
   -- For a name that is also a token by itself, as `t`: write it first in the set, and list this law beside `join`.
   else-same : (o : Out M) (r : Parser M) (s : St M) → r s ≡ fail → o ≡ orElse o r s
@@ -127,4 +176,4 @@ module _ {Act : Type 0} {M : Machine Act} where
   pub split-tok : (c d : ℕ) (set : List ℕ) (q : Parser M) → mem c (d ∷ set) ≡ false → seqP (takeP (c ∷ d ∷ set)) q ≡ altP (seqP (takeP (c ∷ [])) q) (seqP (takeP (d ∷ set)) q)
   split-tok c d set q n = fun-ext (λ s. split-at c d set q n (s .rest) (s .kept))
 
-pub ruleset join = (seq-assoc, alt-assoc, factor, factor-more, shut-first)
+pub ruleset join = (seq-assoc, alt-assoc, factor, factor-more, factor-end, factor-end-more, shut-first, shut-next)

@@ -64,6 +64,11 @@ sound G r =
     && ltb (G .rank r) 100
     && low G 100 (G .rank r) (G .body r)
 
+-- the table of beginnings has no token more than some reading of the rule starts with
+unfoldable pub tight : {Act R : Type 0} → Plan Act R → R → Bool
+unfolding begins null
+tight G r = within (G .first r) (begins (G .first) (G .body r))
+
 -- it takes no token and tests none
 unfoldable pub idle : {Act R : Type 0} → Part Act R → Bool
 idle skip = true
