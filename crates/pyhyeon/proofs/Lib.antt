@@ -1,2 +1,5 @@
 pub mod Factors
 pub mod Language
+pub mod Agreement
+pub mod Meter
+pub mod Limits

@@ -7,3 +7,4 @@ pub mod Action
 pub mod Rules
 pub mod Tables
 pub mod Prices
+pub mod Reading

@@ -1,0 +1,43 @@
+-- The theorem for this grammar: of every script's tokens, 13 set aside, trial and descent both accept, with the same nodes, or both refuse.
+-- And what stands in place of the counts that the definitions carry: neither runs out.
+-- Assumes nothing.
+use mathlib.Core.Path.{_≡_}
+use mathlib.Core.List.{List, _++_}
+use Prim.Native.Nat.{ℕ, _<_}
+use lib.ListN.{length}
+use Rattle.grammar.specs.Trial.{St, Out, ok, fail, out, eval, parse}
+use Rattle.grammar.specs.Descent.{Answer, done, no, deep, stuck, walk, enter, descend}
+use Rattle.grammar.proofs.Top.{Verdict}
+use Rattle.grammar.proofs.Top as top
+use Rattle.grammar.proofs.Step as step
+use Rattle.tokens.specs.Token.{Token}
+use Rattle.pyhyeon.specs.Action.{machine}
+use Rattle.pyhyeon.specs.Rules.{Rule, Program, plain}
+use Rattle.pyhyeon.specs.Tables.{depth, pyhyeon}
+use Rattle.pyhyeon.specs.Reading.{Agree, both-accept, both-refuse, set-aside, start, here, work, descended, descent, tried, trial}
+use Rattle.pyhyeon.proofs.Language.{language, theorem}
+
+module _ (source : List ℕ) (toks : List Token) where
+  agree : {o : Out (machine source toks)} {x : Answer (machine source toks)} → Verdict o x → Agree (tried source toks o) (descended source toks x)
+  agree (Verdict.accepted {s} n) = both-accept (work source toks n (s .kept))
+  agree (Verdict.refused {s} n) = both-refuse (here source toks (s .kept)) (work source toks n (s .kept))
+  agree (Verdict.thirteen {o} {s} n) = set-aside (tried source toks o) (here source toks (s .kept)) (work source toks n (s .kept))
+
+  pub agreement : Agree (trial source toks) (descent source toks)
+  unfolding trial descent
+  agreement = agree (theorem (start source toks))
+
+  -- trial and descent always answer
+  pub trial-answers : parse plain Program (start source toks) ≡ out → ⊥
+  trial-answers e = top.trial-answers language Program (start source toks) e
+
+  pub descent-answers : (room : ℕ) (r : Rule) (n : ℕ) (s : St (machine source toks)) → descend pyhyeon room r n s ≡ stuck → ⊥
+  descent-answers room r n s e = step.descent-answers pyhyeon (top.good language) room r n s e
+
+  -- a rule is its body: "Depth has no limit" in the trial, and only the room is one in the descent
+  pub trial-is : (r : Rule) (s : St (machine source toks)) → parse plain r s ≡ eval (parse plain) (plain r) s
+  trial-is r s = top.rule-is language r s
+
+  pub descent-is : (room : ℕ) (r : Rule) (n : ℕ) (s : St (machine source toks)) →
+      descend pyhyeon room r n s ≡ enter (pyhyeon .opens r) room (λ m. walk (pyhyeon .first) (λ r′. descend pyhyeon m r′) (pyhyeon .body r)) n s
+  descent-is room r n s = step.descend-is pyhyeon (top.good language) room r n s
