@@ -3,3 +3,4 @@ pub mod Language
 pub mod Agreement
 pub mod Meter
 pub mod Limits
+pub mod Starred

@@ -8,3 +8,4 @@ pub mod Rules
 pub mod Tables
 pub mod Prices
 pub mod Reading
+pub mod Starred
