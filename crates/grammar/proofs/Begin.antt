@@ -22,6 +22,12 @@ moved : {set l l′ : List ℕ} → l ≡ l′ → Sees set l′ → Sees set l
 moved {set} e h = subst (Sees set) (sym e) h
 
 module _ {Act : Type 0} {M : Machine Act} where
+  -- nothing is said of it
+  pub any : (o : Out M) → On (λ _. Unit {0}) o
+  any (ok s) = on-ok tt
+  any fail = on-fail
+  any out = on-out
+
   pub on-then : {P Q : St M → Type 0} {o : Out M} {q : Parser M} → On P o → ((s : St M) → P s → On Q (q s)) → On Q (andThen o q)
   unfolding andThen
   on-then (on-ok {s} h) f = f s h

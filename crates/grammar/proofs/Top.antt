@@ -15,7 +15,7 @@ use Rattle.grammar.specs.Trial.{Machine, St, Out, ok, fail, out, Parser,
 use Rattle.grammar.specs.Descent.{Plan, Answer, done, no, deep, descend}
 use Rattle.grammar.specs.Check.{sound, idle, stops}
 use Rattle.grammar.proofs.Sets.{Sees, and-l, and-r, or-e, sees-within}
-use Rattle.grammar.proofs.Begin.{On, on-ok, on-fail, on-out, on-then, on-else, on-if}
+use Rattle.grammar.proofs.Begin.{On, on-ok, on-fail, on-out, any, on-then, on-else, on-if}
 use Rattle.grammar.proofs.Agree.{Agree, met, both-no, too-deep, stray}
 use Rattle.grammar.proofs.Whole.{Sound, tested, agrees-rule}
 use Rattle.grammar.proofs.Step.{descent-answers}
@@ -37,11 +37,6 @@ pub data Verdict {Act : Type 0} {M : Machine Act} : Out M → Answer M → Type 
 module _ {Act : Type 0} {M : Machine Act} where
   of-ok : {P : St M → Type 0} {s : St M} → On P (ok s) → P s
   of-ok (on-ok h) = h
-
-  any : (o : Out M) → On (λ _. Unit {0}) o
-  any (ok s) = on-ok tt
-  any fail = on-fail
-  any out = on-out
 
   -- a part that is idle leaves the tokens
   idle-at : {R : Type 0} (env : R → Parser M) (K : List ℕ) (p : Part Act R) → T (idle p) → (s : St M) → Sees K (s .rest) → On (λ s′. Sees K (s′ .rest)) (eval env p s)

@@ -6,6 +6,7 @@ use Rattle.grammar.specs.Trial.{Machine, St, Parser, eval, parse}
 use Rattle.grammar.specs.Descent.{null, begins, descend}
 use Rattle.grammar.specs.Check.{fits, takes, low, sound, tight, idle, stops}
 use Rattle.grammar.proofs.Factor.{join}
+use Rattle.grammar.proofs.Repeat.{once, between-parts}
 use Rattle.grammar.proofs.Top.{Language, Verdict}
 use Rattle.grammar.proofs.Top as top
 use Rattle.pyhyeon.specs.Action.{Action}
@@ -48,10 +49,10 @@ tightly F = tt
 
 alike : {M : Machine Action} (env : Rule → Parser M) (r : Rule) → eval env (plain r) ≡ eval env (joined r)
 unfolding eval plain joined
-alike env Program = refl
+alike env Program = simp (join, once, between-parts)
 alike env Line = refl
 alike env Simple = simp join
-alike env Block = simp join
+alike env Block = simp (join, between-parts)
 alike env Class = refl
 alike env E = refl
 alike env O = refl

@@ -69,9 +69,12 @@ simples = call Simple ⨾ act list-one ⨾ tail Semicolon (more (call Simple)) �
 abbrev pub newlines : Part Action Rule
 newlines = many (tk Newline)
 
--- "Lines each with Newlines around": those before the first are its rule's, and those between two are taken after the first.
+-- "Lines each with Newlines around"
+abbrev pub around : Part Action Rule
+around = newlines ⨾ call Line ⨾ newlines
+
 abbrev pub lines : Part Action Rule
-lines = call Line ⨾ newlines ⨾ many (call Line ⨾ act list-join ⨾ newlines) ⨾ act list-done
+lines = around ⨾ many (around ⨾ act list-join) ⨾ act list-done ∕ act list-none
 
 -- "After the keyword: def and Method name, (names), Block; if, elif and while E, Block; else Block; for name, `in`, E, Block."
 abbrev pub definition : ℕ → Part Action Rule
@@ -114,7 +117,7 @@ postfix =
 
 -- The rules.
 unfoldable pub plain : Rule → Part Action Rule
-plain Program = newlines ⨾ (lines ∕ act list-none) ⨾ see (Eof ∷ []) ⨾ act program
+plain Program = newlines ⨾ lines ⨾ see (Eof ∷ []) ⨾ act program
 plain Line = compound ⨾ act list-one ∕ simples
 plain Simple =
     tk Return ⨾ act mark ⨾ t ⨾ act return
@@ -124,7 +127,7 @@ plain Simple =
     ∕ tk Continue ⨾ act (alone kind.Continue)
     ∕ tk Pass ⨾ act (alone kind.Pass)
 plain Block =
-    tk Colon ⨾ tk Newline ⨾ newlines ⨾ tk Indent ⨾ (newlines ⨾ lines ∕ act list-none) ⨾ tk Dedent
+    tk Colon ⨾ tk Newline ⨾ newlines ⨾ tk Indent ⨾ lines ⨾ tk Dedent
     ∕ tk Colon ⨾ simples ⨾ act list-done
 plain Class =
     tk token.Class ⨾ act mark ⨾ called ⨾ tk Colon ⨾ tk Newline ⨾ newlines ⨾ tk Indent

@@ -4,7 +4,7 @@
 use Prim.Native.Nat.{ℕ}
 use mathlib.Core.Bool.{Bool, true, false}
 use mathlib.Core.List.{List, [], _∷_, _++_}
-use Rattle.grammar.specs.Grammar.{Part, skip, act, tok, call, _⨾_, _∕_, many, tail}
+use Rattle.grammar.specs.Grammar.{Part, skip, act, tok, see, call, _⨾_, _∕_, many, tail}
 use Rattle.grammar.specs.Descent.{Plan}
 use Rattle.token.specs.Code.{If, Elif, Else, While, For, Def, Return, And, Or, Not, Break, Continue, Pass, Lambda, Identifier}
 use Rattle.token.specs.Code.{Plus, Minus, Star, SlashSlash, Slash, Percent, Equal}
@@ -12,10 +12,14 @@ use Rattle.token.specs.Code.{LParen, RParen, LBracket, RBracket, LBrace, RBrace
 use Rattle.token.specs.Code as token
 use Rattle.pyhyeon.specs.Symbol.{Tee}
 use Rattle.pyhyeon.specs.Kind as kind
-use Rattle.pyhyeon.specs.Action.{Action, mark, literal, named, alone, list-none, list-one, list-done, enclose, empty, group, tuple, pair, expr, assign, return}
-use Rattle.pyhyeon.specs.Rules.{Rule, Program, Line, Simple, Block, Class, E, O, A, C, S, P, U, F, tk, more, list, entry, rest, simples, newlines, lines, comparisons, literals, postfix, plain}
+use Rattle.pyhyeon.specs.Action.{Action, mark, literal, named, alone, list-none, list-one, list-join, list-done, enclose, empty, group, tuple, pair, expr, assign, return, program}
+use Rattle.pyhyeon.specs.Rules.{Rule, Program, Line, Simple, Block, Class, E, O, A, C, S, P, U, F, tk, more, list, entry, rest, simples, newlines, comparisons, literals, postfix, plain}
 
--- Alternatives that begin alike are taken together up to where they differ; only Simple, Block and F have such.
+-- Alternatives that begin alike are taken together up to where they differ, and Newlines between two Lines are taken after the first. So Program,
+-- Simple, Block and F differ from `plain`.
+
+abbrev pub linesOn : Part Action Rule
+linesOn = call Line ⨾ newlines ⨾ many (call Line ⨾ newlines ⨾ act list-join) ⨾ act list-done
 
 -- t: after one E a comma, and after that perhaps another E, which makes it a Tuple
 abbrev pub tJoined : Part Action Rule
@@ -48,7 +52,7 @@ primary =
 
 unfoldable pub joined : Rule → Part Action Rule
 unfolding plain
-joined Program = plain Program
+joined Program = newlines ⨾ (linesOn ∕ act list-none) ⨾ see (Eof ∷ []) ⨾ act program
 joined Line = plain Line
 joined Simple =
     tk Return ⨾ act mark ⨾ tJoined ⨾ act return
@@ -57,7 +61,7 @@ joined Simple =
     ∕ tk Continue ⨾ act (alone kind.Continue)
     ∕ tk Pass ⨾ act (alone kind.Pass)
 joined Block =
-    tk Colon ⨾ (tk Newline ⨾ newlines ⨾ tk Indent ⨾ (newlines ⨾ lines ∕ act list-none) ⨾ tk Dedent ∕ simples ⨾ act list-done)
+    tk Colon ⨾ (tk Newline ⨾ newlines ⨾ tk Indent ⨾ (newlines ⨾ linesOn ∕ act list-none) ⨾ tk Dedent ∕ simples ⨾ act list-done)
 joined Class = plain Class
 joined E = plain E
 joined O = plain O
