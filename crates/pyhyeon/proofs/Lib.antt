@@ -3,4 +3,5 @@ pub mod Language
 pub mod Agreement
 pub mod Meter
 pub mod Limits
+pub mod Held
 pub mod Starred
