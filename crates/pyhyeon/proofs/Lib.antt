@@ -5,3 +5,4 @@ pub mod Meter
 pub mod Limits
 pub mod Held
 pub mod Starred
+pub mod Samples
