@@ -88,15 +88,15 @@ record Samples : Type 0 where
 samples : Samples
 unfolding andThen orElse orStay seqP altP loop manyP skipP okIf takeFrom takeP seeP actP tailP eval rule enough parse null begins thenD sameD seqD byD loopD tailD manyD listD walk enter ruleD descend symbols perform plain joined first opens start descent trial toBits ofInt
 samples = record {
-  target = record { descends = refl; tries = refl };
-  blank = record { descends = refl; tries = refl };
-  branches = record { descends = refl; tries = refl };
-  braces = record { descends = refl; tries = refl };
-  tuples = record { descends = refl; tries = refl };
-  classes = record { descends = refl; tries = refl };
-  loops = record { descends = refl; tries = refl };
-  signs = record { descends = refl; tries = refl };
-  literals = record { descends = refl; tries = refl };
+  target = record { descends = refl; tries = refl; fields = tt };
+  blank = record { descends = refl; tries = refl; fields = tt };
+  branches = record { descends = refl; tries = refl; fields = tt };
+  braces = record { descends = refl; tries = refl; fields = tt };
+  tuples = record { descends = refl; tries = refl; fields = tt };
+  classes = record { descends = refl; tries = refl; fields = tt };
+  loops = record { descends = refl; tries = refl; fields = tt };
+  signs = record { descends = refl; tries = refl; fields = tt };
+  literals = record { descends = refl; tries = refl; fields = tt };
 }
 
 -- n tokens of one byte from a place on; n parentheses around `a`

@@ -16,18 +16,18 @@ use Rattle.pyhyeon.specs.Starred.{Starred, Printed, Comes}
 pub starred : Starred
 unfolding andThen orElse orStay seqP altP loop manyP skipP okIf takeFrom takeP seeP actP tailP eval rule enough parse null begins thenD sameD seqD byD loopD tailD manyD listD walk enter ruleD descend symbols perform plain joined first opens start descent trial
 starred = record {
-  nothing = record { descends = refl; tries = refl };
-  signed = record { descends = refl; tries = refl };
-  float = record { descends = refl; tries = refl };
-  attribute = record { descends = refl; tries = refl };
-  parens = record { descends = refl; tries = refl };
-  tuple = record { descends = refl; tries = refl };
-  negation = record { descends = refl; tries = refl };
-  comma = record { descends = refl; tries = refl };
-  cut = record { descends = refl; tries = refl };
-  whole = record { descends = refl; tries = refl };
-  body = record { descends = refl; tries = refl };
-  least = record { descends = refl; tries = refl };
+  nothing = record { descends = refl; tries = refl; fields = tt };
+  signed = record { descends = refl; tries = refl; fields = tt };
+  float = record { descends = refl; tries = refl; fields = tt };
+  attribute = record { descends = refl; tries = refl; fields = tt };
+  parens = record { descends = refl; tries = refl; fields = tt };
+  tuple = record { descends = refl; tries = refl; fields = tt };
+  negation = record { descends = refl; tries = refl; fields = tt };
+  comma = record { descends = refl; tries = refl; fields = tt };
+  cut = record { descends = refl; tries = refl; fields = tt };
+  whole = record { descends = refl; tries = refl; fields = tt };
+  body = record { descends = refl; tries = refl; fields = tt };
+  least = record { descends = refl; tries = refl; fields = tt };
 }
 
 pub printed : Printed

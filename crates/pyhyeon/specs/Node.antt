@@ -1,8 +1,9 @@
 -- Nodes: the eight fields of a record, and what the last four hold in each kind (01, Tree).
 -- Assumes nothing.
-use Prim.Native.Nat.{ℕ}
-use mathlib.Core.Bool.{Bool, true, false}
+use Prim.Native.Nat.{ℕ, suc}
+use mathlib.Core.Bool.{Bool, true, false, _&&_, _||_}
 use mathlib.Core.List.{List, [], _∷_}
+use lib.Dec.{eqb, ltb}
 use lib.ListN.{getD}
 use Rattle.pyhyeon.specs.Kind as kind
 
@@ -36,11 +37,11 @@ pub record Fields : Type 0 where
   pub r : Field
   pub s : Field
 
-abbrev row : Field → Field → Field → Field → Fields
+abbrev pub row : Field → Field → Field → Field → Fields
 row p q r s = record { p = p; q = q; r = r; s = s }
 
 -- The one table of what each kind's fields hold, in the order of the kinds from 1 on. "Names are start and end in the source", two words.
-unfoldable pub table : List Fields
+abbrev pub table : List Fields
 table =
     row list unused unused unused  -- 1 Program
     ∷ row node list list maybe  -- 2 If
@@ -80,7 +81,6 @@ table =
 
 -- what the fields of this kind hold
 abbrev pub fieldsOf : ℕ → Fields
-unfolding table
 fieldsOf k = getD (row unused unused unused unused ∷ table) k (row unused unused unused unused)
 
 -- the field holds a node's number, or none: there it prints as `-`
@@ -90,3 +90,22 @@ holdsNode word = false
 holdsNode node = true
 holdsNode maybe = true
 holdsNode list = true
+
+-- The number in a field of node i is such as the field holds: 0; any; a node written before; that or none.
+abbrev pub fieldFits : Field → ℕ → ℕ → Bool
+fieldFits unused i x = eqb x 0
+fieldFits word i x = true
+fieldFits node i x = ltb x i
+fieldFits maybe i x = eqb x none || ltb x i
+fieldFits list i x = eqb x none || ltb x i
+
+-- node i has fields as its kind says, and none or a later node for its next
+abbrev pub nodeFits : ℕ → Node → Bool
+nodeFits i n =
+    fieldFits (fieldsOf (n .kind) .p) i (n .p) && fieldFits (fieldsOf (n .kind) .q) i (n .q) && fieldFits (fieldsOf (n .kind) .r) i (n .r) && fieldFits (fieldsOf (n .kind) .s) i (n .s)
+    && ltb i (n .next)
+
+-- so have all these nodes, from number i on
+abbrev pub allFit : ℕ → List Node → Bool
+allFit i [] = true
+allFit i (n ∷ ns) = nodeFits i n && allFit (suc i) ns

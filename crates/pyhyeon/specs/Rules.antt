@@ -99,7 +99,7 @@ compound =
     ∕ tk While ⨾ act mark ⨾ call E ⨾ call Block ⨾ act while
     ∕ tk For ⨾ act mark ⨾ called ⨾ tk In ⨾ call E ⨾ call Block ⨾ act for
 
--- "All group left": an operand, and while an operator stands next, it and another operand.
+-- A level of operators: an operand, and while an operator stands next, it and another operand.
 abbrev pub level : Rule → List ℕ → Part Action Rule
 level r ops = call r ⨾ many (tok ops ⨾ act mark ⨾ call r ⨾ act binary)
 
@@ -117,8 +117,11 @@ postfix =
 
 -- The rules.
 unfoldable pub plain : Rule → Part Action Rule
+-- "Program: Newlines (none or more), Lines each with Newlines around, end."
 plain Program = newlines ⨾ lines ⨾ see (Eof ∷ []) ⨾ act program
+-- "Line: class, def, if, while, for, or simples"
 plain Line = compound ⨾ act list-one ∕ simples
+-- "Simple: return t; t = t; t; break; continue; pass."
 plain Simple =
     tk Return ⨾ act mark ⨾ t ⨾ act return
     ∕ t ⨾ tk Equal ⨾ t ⨾ act assign
@@ -126,12 +129,16 @@ plain Simple =
     ∕ tk Break ⨾ act (alone kind.Break)
     ∕ tk Continue ⨾ act (alone kind.Continue)
     ∕ tk Pass ⨾ act (alone kind.Pass)
+-- "Block, opened at its colon: one or more Newlines, Indent, Lines as in Program, Dedent; or simples."
 plain Block =
     tk Colon ⨾ tk Newline ⨾ newlines ⨾ tk Indent ⨾ lines ⨾ tk Dedent
     ∕ tk Colon ⨾ simples ⨾ act list-done
+-- "Class, opened at its keyword: name, colon, one or more Newlines, Indent, one or more Methods with no Newline between, Dedent."
 plain Class =
     tk token.Class ⨾ act mark ⨾ called ⨾ tk Colon ⨾ tk Newline ⨾ newlines ⨾ tk Indent
     ⨾ definition kind.Method ⨾ act list-one ⨾ many (more (definition kind.Method)) ⨾ act list-done ⨾ tk Dedent ⨾ act class
+-- "E: lambda names : E, or O. O: A by `or`. A: C by `and`. C: S by comparisons. S: P by + -. P: U by * // / %. All group left. U: any of not - +,
+-- then F."
 plain E = tk Lambda ⨾ act mark ⨾ parameters ⨾ tk Colon ⨾ call E ⨾ act lambda ∕ call O
 plain O = level A (Or ∷ [])
 plain A = level C (And ∷ [])
@@ -141,6 +148,7 @@ plain C =
 plain S = level P (Plus ∷ Minus ∷ [])
 plain P = level U (Star ∷ SlashSlash ∷ Slash ∷ Percent ∷ [])
 plain U = act signs-none ⨾ many (tok (Not ∷ Minus ∷ Plus ∷ []) ⨾ act signs-more) ⨾ call F ⨾ act unary
+-- "F: literal; [list]; t{list}; {} as Dict, {pairs}, {list}; parentheses; name; then .name (list) [E] repeated."
 plain F =
     (tok literals ⨾ act literal
     ∕ tk LBracket ⨾ act mark ⨾ list ⨾ tk RBracket ⨾ act (enclose kind.List)

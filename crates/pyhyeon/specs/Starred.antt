@@ -4,13 +4,14 @@
 use Prim.Native.Nat.{ℕ}
 use mathlib.Core.Path.{_≡_}
 use mathlib.Core.List.{List, [], _∷_, map}
+use lib.Dec.{T}
 use lib.IntN.{pos, negsuc}
 use Rattle.source.specs.Text.{bytes}
 use Rattle.literal.specs.declared.Literal.the-variants as L
 use Rattle.token.specs.Code.{If, Not, Identifier, Int, EqualEqual, Less, LParen, RParen, Colon, Comma, Dot, Indent, Dedent, Newline, Eof}
 use Rattle.tokens.specs.Token.{Token}
 use Rattle.pyhyeon.specs.Kind as kind
-use Rattle.pyhyeon.specs.Node.{Node, none, words}
+use Rattle.pyhyeon.specs.Node.{Node, none, words, allFit}
 use Rattle.pyhyeon.specs.Machine.{made}
 use Rattle.pyhyeon.specs.Reading.{Work, Descended, Accepted, TooDeep, Misfit, Tried, Fits, Fails, workOf, descent, trial}
 
@@ -31,10 +32,11 @@ trialOf (Accepted w) = Fits (w .nodes)
 trialOf (TooDeep place w) = Fails
 trialOf (Misfit place w) = Fails
 
--- The script with these tokens: the descent comes to d, and the trial to the same.
+-- The script with these tokens: the descent comes to d, and the trial to the same; and the nodes are as the table of fields says.
 pub record Comes (source : List ℕ) (toks : List Token) (d : Descended) : Type 0 where
   pub descends : descent source toks ≡ d
   pub tries : trial source toks ≡ trialOf d
+  pub fields : T (allFit 0 (workOf d .nodes))
 
 -- so many tokens and openings, and these nodes
 abbrev pub work : ℕ → ℕ → List Node → Work
