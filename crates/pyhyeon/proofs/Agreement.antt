@@ -17,14 +17,14 @@ use Rattle.pyhyeon.specs.Machine.{blank}
 use Rattle.pyhyeon.specs.Action.{machine}
 use Rattle.pyhyeon.specs.Rules.{Rule, Program, plain}
 use Rattle.pyhyeon.specs.Tables.{depth, pyhyeon}
-use Rattle.pyhyeon.specs.Reading.{Agree, both-accept, both-refuse, set-aside, Fails, start, here, work, descended, descent, tried, trial}
+use Rattle.pyhyeon.specs.Reading.{Agree, both-accept, both-refuse, set-aside, Fails, start, descended, descent, tried, trial}
 use Rattle.pyhyeon.proofs.Language.{language, theorem}
 
 module _ (source : List ℕ) (toks : List Token) where
   agree : {o : Out (machine source toks)} {x : Answer (machine source toks)} → Verdict o x → Agree (tried source toks o) (descended source toks x)
-  agree (Verdict.accepted {s} n) = both-accept (work source toks n (s .kept))
-  agree (Verdict.refused {s} n) = both-refuse (here source toks (s .kept)) (work source toks n (s .kept))
-  agree (Verdict.thirteen {o} {s} n) = set-aside (tried source toks o) (here source toks (s .kept)) (work source toks n (s .kept))
+  agree (Verdict.accepted n) = both-accept _
+  agree (Verdict.refused n) = both-refuse _ _
+  agree (Verdict.thirteen n) = set-aside _ _ _
 
   pub agreement : Agree (trial source toks) (descent source toks)
   unfolding trial descent

@@ -8,8 +8,8 @@ use lib.ListN.{length, getD, set, drop, length-set, length-append}
 use Rattle.grammar.proofs.Along.{Keeps}
 use Rattle.tokens.specs.Token.{Token}
 use Rattle.pyhyeon.specs.Node.{Node}
-use Rattle.pyhyeon.specs.Machine.{Value, token, node, signs, growing, list, chain, Kept, number, count, last, operand, one, both, whole, top, put, write}
-use Rattle.pyhyeon.specs.Action.{Action, mark, literal, named, alone, signs-none, signs-more, unary, binary, compare, compare-more, compared, list-none, list-one, list-join, list-done, enclose, empty, group, tuple, pair, attribute, apply, index, lambda, expr, assign, return, branch, elif, else, while, for, define, class, program, unaryNode, wrap, bare, binaryOf, operator, perform, machine}
+use Rattle.pyhyeon.specs.Machine.{Value, token, node, signs, growing, list, chain, Kept, number, count, last, one, both, whole, top, put, write}
+use Rattle.pyhyeon.specs.Action.{Action, mark, literal, named, alone, signs-none, signs-more, unary, binary, compare, compare-more, compared, list-none, list-one, list-join, list-done, enclose, empty, group, tuple, pair, attribute, apply, index, lambda, expr, assign, return, branch, elif, else, while, for, define, class, program, wrap, bare, perform, machine}
 
 -- the nodes of a value are below m
 unfoldable pub Fit : ℕ → Value → Type 0
@@ -114,7 +114,7 @@ module _ (source : List ℕ) (toks : List Token) where
   wrap-along : (c f : ℕ) (k : Kept) → Along k (wrap source toks c f k)
   unfolding wrap
   wrap-along zero f k = along-same k
-  wrap-along (suc c) f k = along-on (write-along 1 (unaryNode source toks (f + c) k) k) (wrap-along c f (write 1 (unaryNode source toks (f + c) k) k))
+  wrap-along (suc c) f k = along-on (write-along 1 _ k) (wrap-along c _ _)
 
   act-along : (a : Action) (k : Kept) → Along k (perform source toks a k)
   unfolding perform Fit
@@ -127,9 +127,9 @@ module _ (source : List ℕ) (toks : List Token) where
   act-along unary k = along-on (put-along 2 (top 0 k) k (λ h. fit-at 0 _ (k .values) h)) (wrap-along (count (top 1 k)) (number (top 1 k)) (bare source toks k))
   act-along binary k = write-along 3 _ k
   act-along compare k =
-      along-on (write-along 3 _ k) (put-along 1 _ (binaryOf source toks 3 (operator source toks (top 1 k)) (number (top 2 k)) (number (top 0 k)) k) (λ _. simp length-append (omega arith)))
+      along-on (write-along 3 _ k) (put-along 1 _ _ (λ _. simp length-append (omega arith)))
   act-along compare-more k =
-      along-on (along-on (write-along 3 _ k) (write-along 1 _ (binaryOf source toks 3 (operator source toks (top 1 k)) (operand (top 2 k)) (number (top 0 k)) k)))
+      along-on (along-on (write-along 3 _ k) (write-along 1 _ _))
       (put-along 1 _ _ (λ _. simp length-append (omega arith)))
   act-along compared k = put-along 1 _ k (λ h. fit-whole _ (top 0 k) (fit-at 0 _ (k .values) h))
   act-along list-none k = put-along 0 _ k (λ _. tt)
