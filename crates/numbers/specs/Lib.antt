@@ -1,1 +1,4 @@
 pub mod Bits
+pub mod Decimal
+pub mod Digits
+pub mod Integer
