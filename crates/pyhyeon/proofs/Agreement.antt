@@ -45,12 +45,12 @@ module _ (source : List ℕ) (toks : List Token) where
       descend pyhyeon room r n s ≡ enter (pyhyeon .opens r) room (λ m. walk (pyhyeon .first) (λ r′. descend pyhyeon m r′) (pyhyeon .body r)) n s
   descent-is room r n s = step.descend-is pyhyeon (top.good language) room r n s
 
--- 14 stands at the first token that does not fit. The descent refuses the tokens w and then v at a token of w, as more are left than v has: then no
--- script whose tokens begin as w does is accepted.
-map-length : {A B : Type 0} (f : A → B) (l : List A) → length (map f l) ≡ length l
+pub map-length : {A B : Type 0} (f : A → B) (l : List A) → length (map f l) ≡ length l
 map-length f [] = refl
 map-length f (x ∷ l) = ap suc (map-length f l)
 
+-- 14 stands at the first token that does not fit. The descent refuses the tokens w and then v at a token of w, as more are left than v has: then no
+-- script whose tokens begin as w does is accepted.
 pub first-misfit : (source source′ : List ℕ) (w v w′ v′ : List Token) (m : ℕ) (s : St (machine source (w ++ v))) → descend pyhyeon depth Program 0 (start source (w ++ v)) ≡ no m s →
     length v < length (s .rest) → symbols source w ≡ symbols source′ w′ → trial source′ (w′ ++ v′) ≡ Fails
 unfolding symbols start trial

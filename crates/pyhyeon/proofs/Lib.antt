@@ -4,5 +4,6 @@ pub mod Agreement
 pub mod Meter
 pub mod Limits
 pub mod Held
+pub mod Sorts
 pub mod Starred
 pub mod Samples

@@ -1,27 +1,30 @@
 -- The limits on the descent's work, in acceptance and in refusal: openings at most 10 T + 1, and nodes at most 2 T + 1.
 -- Assumes nothing.
-use mathlib.Core.Path.{_≡_, refl, sym, subst}
-use mathlib.Core.List.{List}
+use mathlib.Core.Path.{_≡_, refl, _∙_}
+use mathlib.Core.Bool.{not}
+use mathlib.Core.List.{List, [], _∷_, _++_, map, map-append}
 use Prim.Native.Nat.{ℕ, _+_, _*_, _≤_}
 use native.Mathlib.Omega.{arith}
 use lib.Dec.{T}
 use lib.ListN.{length}
-use Rattle.grammar.specs.Trial.{St}
-use Rattle.grammar.specs.Descent.{Answer, done, no, deep, stuck, descend}
+use Rattle.grammar.specs.Sets.{mem}
+use Rattle.grammar.specs.Descent.{Answer, descend}
 use Rattle.grammar.specs.Check.{takes, low}
 use Rattle.grammar.specs.Limits.{before, clean, credit, afford, spare, modest}
 use Rattle.grammar.proofs.Ends.{Ends, ends-done, ends-no, ends-deep, ends-stuck}
+use Rattle.grammar.proofs.Tokens.{before-is}
 use Rattle.grammar.proofs.Limits.{Accepted, Refused}
 use Rattle.grammar.proofs.Limits as all
 use Rattle.token.specs.Code.{Eof}
 use Rattle.tokens.specs.Token.{Token}
-use Rattle.pyhyeon.specs.Symbol.{symbols}
+use Rattle.pyhyeon.specs.Symbol.{symbol, symbols}
 use Rattle.pyhyeon.specs.Machine.{Kept, blank}
 use Rattle.pyhyeon.specs.Action.{machine}
 use Rattle.pyhyeon.specs.Rules.{Rule, Program, Line, Simple, Block, Class, E, O, A, C, S, P, U, F, plain}
 use Rattle.pyhyeon.specs.Tables.{joined, first, follow, least, rank, depth, pyhyeon}
 use Rattle.pyhyeon.specs.Prices.{writes, needs, gives, prices}
 use Rattle.pyhyeon.specs.Reading.{Limited, start, descended, descent, workOf}
+use Rattle.pyhyeon.proofs.Agreement.{map-length}
 use Rattle.pyhyeon.proofs.Meter.{counted, counted-nodes, meter}
 
 -- the tables of ranks and prices pass their test
@@ -53,3 +56,11 @@ module _ (source : List ℕ) (toks : List Token) where
   pub limits : Limited (workOf (descent source toks))
   unfolding descent start counted meter
   limits = limit refl (all.whole pyhyeon prices frugal (meter source toks) depth Program (start source toks) refl refl)
+
+-- T is the number of tokens without Eof: of tokens w without one, and then Eof, it is the length of w.
+pub tokens-are : (source : List ℕ) (w : List Token) (e : Token) → e .code ≡ Eof → T (not (mem Eof (symbols source w))) → before Eof (symbols source (w ++ e ∷ [])) ≡ length w
+unfolding symbols
+tokens-are source w e is out =
+    let last : symbol source e ≡ Eof = rw is refl in
+    let all : map (symbol source) (w ++ e ∷ []) ≡ map (symbol source) w ++ Eof ∷ [] = map-append (symbol source) w (e ∷ []) ∙ rw last refl in
+    rw all (before-is Eof (map (symbol source) w) [] out) ∙ map-length (symbol source) w

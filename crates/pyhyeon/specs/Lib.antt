@@ -8,4 +8,5 @@ pub mod Rules
 pub mod Tables
 pub mod Prices
 pub mod Reading
+pub mod Sorts
 pub mod Starred
