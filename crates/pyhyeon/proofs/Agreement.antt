@@ -17,7 +17,7 @@ use Rattle.pyhyeon.specs.Machine.{blank}
 use Rattle.pyhyeon.specs.Action.{machine}
 use Rattle.pyhyeon.specs.Rules.{Rule, Program, plain}
 use Rattle.pyhyeon.specs.Tables.{depth, pyhyeon}
-use Rattle.pyhyeon.specs.Reading.{Agree, both-accept, both-refuse, set-aside, Fails, start, descended, descent, tried, trial}
+use Rattle.pyhyeon.specs.Reading.{Work, Descended, Accepted, Misfit, Tried, Fits, Agree, both-accept, both-refuse, set-aside, Fails, start, descended, descent, tried, trial}
 use Rattle.pyhyeon.proofs.Language.{language, theorem}
 
 module _ (source : List ℕ) (toks : List Token) where
@@ -29,6 +29,23 @@ module _ (source : List ℕ) (toks : List Token) where
   pub agreement : Agree (trial source toks) (descent source toks)
   unfolding trial descent
   agreement = agree (theorem (start source toks))
+
+  -- what the descent accepts the trial accepts, with the same nodes; what it refuses with 14 the trial refuses
+  accept : {t : Tried} {d : Descended} (w : Work) → Agree t d → d ≡ Accepted w → t ≡ Fits (w .nodes)
+  accept w (both-accept w₁) e = cc
+  accept w (both-refuse place w₁) e = cc
+  accept w (set-aside t place w₁) e = cc
+
+  pub accepts : (w : Work) → descent source toks ≡ Accepted w → trial source toks ≡ Fits (w .nodes)
+  accepts w e = accept w agreement e
+
+  refuse : {t : Tried} {d : Descended} (place : ℕ) (w : Work) → Agree t d → d ≡ Misfit place w → t ≡ Fails
+  refuse place w (both-accept w₁) e = cc
+  refuse place w (both-refuse place₁ w₁) e = refl
+  refuse place w (set-aside t place₁ w₁) e = cc
+
+  pub refuses : (place : ℕ) (w : Work) → descent source toks ≡ Misfit place w → trial source toks ≡ Fails
+  refuses place w e = refuse place w agreement e
 
   -- trial and descent always answer
   pub trial-answers : parse plain Program (start source toks) ≡ out → ⊥

@@ -1,4 +1,5 @@
--- What each action writes, and what each rule may: the prices by which the limits are tested. A token pays for two nodes and ten openings.
+-- What each action writes, and what each rule may: the prices by which the limits are shown. A token pays for two nodes and ten openings.
+-- No statement cites these tables: they are tested (`frugal`), and need not be believed.
 -- Assumes nothing.
 use Prim.Native.Nat.{ℕ}
 use Rattle.grammar.specs.Limits.{Prices}

@@ -1,4 +1,5 @@
 -- The sorts of the values that each action takes and leaves, and each rule leaves; the one that came last to hand stands first.
+-- Trial and descent do not read these tables: they are tested (`plain-flows`, `joined-flows`), and need not be believed.
 -- Assumes nothing.
 use mathlib.Core.List.{List, [], _∷_, map}
 use Rattle.grammar.specs.Flow.{Effect, Effects}

@@ -103,6 +103,8 @@ first P = firstU
 first U = firstU
 first F = firstF
 
+-- The descent does not read the tables from here to `rank`: they are tested (`passes`, `frugal`), and need not be believed.
+
 -- the tokens that can stand after a rule
 abbrev afterLine : List ℕ
 afterLine = Newline ∷ Dedent ∷ Eof ∷ firstLine
