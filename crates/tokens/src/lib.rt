@@ -1,1 +1,1 @@
-// A token as the scanner finds it and the tree reader takes it: specs/Token.antt.
+// No code: this crate stands for the record of a token in specs/, which the scanner's promise and the grammar's definitions share.

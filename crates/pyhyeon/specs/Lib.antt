@@ -1,0 +1,12 @@
+pub mod Kind
+pub mod Node
+pub mod Operator
+pub mod Symbol
+pub mod Machine
+pub mod Action
+pub mod Rules
+pub mod Tables
+pub mod Prices
+pub mod Reading
+pub mod Sorts
+pub mod Starred
