@@ -8,7 +8,7 @@ use Rattle.grammar.specs.Trial.{Machine, Parser, seqP, altP, takeP, eval}
 use Rattle.grammar.proofs.Factor.{join, split-tok, swap}
 use Rattle.token.specs.Code.{Identifier, LBracket, RBracket, LBrace, RBrace, LParen}
 use Rattle.pyhyeon.specs.Symbol.{Tee}
-use Rattle.pyhyeon.specs.Kind as kind
+use Rattle.ast.specs.Kind as kind
 use Rattle.pyhyeon.specs.Action.{Action, mark, literal, named, enclose}
 use Rattle.pyhyeon.specs.Rules.{Rule, E, F, tk, list, literals, postfix, plain}
 use Rattle.pyhyeon.specs.Tables.{braces, round, joined}

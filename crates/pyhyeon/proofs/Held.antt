@@ -7,7 +7,7 @@ use native.Mathlib.Omega.{arith}
 use lib.ListN.{length, getD, set, drop, length-set, length-append}
 use Rattle.grammar.proofs.Along.{Keeps}
 use Rattle.tokens.specs.Token.{Token}
-use Rattle.pyhyeon.specs.Node.{Node}
+use Rattle.ast.specs.Node.{Node}
 use Rattle.pyhyeon.specs.Machine.{Value, token, node, signs, growing, list, chain, Kept, number, count, last, one, both, whole, top, put, write}
 use Rattle.pyhyeon.specs.Action.{Action, mark, literal, named, alone, signs-none, signs-more, unary, binary, compare, compare-more, compared, list-none, list-one, list-join, list-done, enclose, empty, group, tuple, pair, attribute, apply, index, lambda, expr, assign, return, branch, elif, else, while, for, define, class, program, wrap, bare, perform, machine}
 

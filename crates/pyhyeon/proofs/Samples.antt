@@ -14,8 +14,8 @@ use Rattle.token.specs.Code.{Minus, SlashSlash, LessEqual, Equal, LParen, RPare
 use Rattle.grammar.specs.Trial.{andThen, orElse, orStay, seqP, altP, loop, manyP, skipP, okIf, takeFrom, takeP, seeP, actP, tailP, eval, rule, enough, parse}
 use Rattle.grammar.specs.Descent.{null, begins, thenD, sameD, seqD, byD, loopD, tailD, manyD, listD, walk, enter, ruleD, descend}
 use Rattle.tokens.specs.Token.{Token}
-use Rattle.pyhyeon.specs.Kind as kind
-use Rattle.pyhyeon.specs.Node.{Node, none}
+use Rattle.ast.specs.Kind as kind
+use Rattle.ast.specs.Node.{Node, none}
 use Rattle.pyhyeon.specs.Symbol.{symbols}
 use Rattle.pyhyeon.specs.Machine.{made, linked}
 use Rattle.pyhyeon.specs.Action.{perform}

@@ -10,7 +10,7 @@ use Rattle.grammar.specs.Flow.{bind, where-same, strip, alike, effect, again, f
 use Rattle.grammar.proofs.Ends.{Ends}
 use Rattle.grammar.proofs.Flow.{descend-leaves}
 use Rattle.tokens.specs.Token.{Token}
-use Rattle.pyhyeon.specs.Node.{Node}
+use Rattle.ast.specs.Node.{Node}
 use Rattle.pyhyeon.specs.Machine.{Value, token, node, signs, growing, list, chain, Kept, number, count, one, both, whole, top, put, write}
 use Rattle.pyhyeon.specs.Action.{Action, mark, literal, named, alone, signs-none, signs-more, unary, binary, compare, compare-more, compared, list-none, list-one, list-join, list-done, enclose, empty, group, tuple, pair, attribute, apply, index, lambda, expr, assign, return, branch, elif, else, while, for, define, class, program, wrap, bare, perform, machine}
 use Rattle.pyhyeon.specs.Rules.{Rule, Program, Line, Simple, Block, Class, E, O, A, C, S, P, U, F, plain}

@@ -12,9 +12,9 @@ use Rattle.literal.specs.declared.Literal.{Literal}
 use Rattle.literal.specs.declared.Literal.the-variants as L
 use Rattle.numbers.specs.Bits.{halvesOf, twosComplement}
 use Rattle.tokens.specs.Token.{Token}
-use Rattle.pyhyeon.specs.Kind as kind
-use Rattle.pyhyeon.specs.Node.{Node, none}
-use Rattle.pyhyeon.specs.Operator.{unaryOp, binaryOp}
+use Rattle.ast.specs.Kind as kind
+use Rattle.ast.specs.Node.{Node, none}
+use Rattle.ast.specs.Operator.{unaryOp, binaryOp}
 use Rattle.pyhyeon.specs.Machine.{Value, node, signs, growing, list, chain, Kept, number, count, last, operand, one, both, whole, top, taken, put, write, nth, change, made, linked, spanned}
 use Rattle.pyhyeon.specs.Machine as value
 

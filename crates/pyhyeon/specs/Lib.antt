@@ -1,6 +1,3 @@
-pub mod Kind
-pub mod Node
-pub mod Operator
 pub mod Symbol
 pub mod Machine
 pub mod Action

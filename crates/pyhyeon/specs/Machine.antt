@@ -4,7 +4,7 @@
 use Prim.Native.Nat.{ℕ, _+_, _-_}
 use mathlib.Core.List.{List, [], _∷_, _++_}
 use lib.ListN.{length, getD, set, drop}
-use Rattle.pyhyeon.specs.Node.{Node, none}
+use Rattle.ast.specs.Node.{Node, none}
 
 -- A value at hand, by numbers of tokens and of nodes.
 pub data Value : Type 0 where

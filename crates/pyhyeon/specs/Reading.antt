@@ -8,7 +8,7 @@ use Rattle.grammar.specs.Descent.{Answer, done, no, deep, stuck, descend}
 use Rattle.grammar.specs.Limits.{before}
 use Rattle.token.specs.Code.{Eof}
 use Rattle.tokens.specs.Token.{Token}
-use Rattle.pyhyeon.specs.Node.{Node}
+use Rattle.ast.specs.Node.{Node}
 use Rattle.pyhyeon.specs.Symbol.{symbols}
 use Rattle.pyhyeon.specs.Machine.{Kept, blank}
 use Rattle.pyhyeon.specs.Action.{tokenAt, machine}

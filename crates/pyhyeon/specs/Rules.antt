@@ -8,7 +8,7 @@ use Rattle.token.specs.Code.{Plus, Minus, Star, SlashSlash, Slash, Percent, Equ
 use Rattle.token.specs.Code.{LParen, RParen, LBracket, RBracket, LBrace, RBrace, Colon, Comma, Semicolon, Dot, Indent, Dedent, Newline, Eof}
 use Rattle.token.specs.Code as token
 use Rattle.pyhyeon.specs.Symbol.{Tee}
-use Rattle.pyhyeon.specs.Kind as kind
+use Rattle.ast.specs.Kind as kind
 use Rattle.pyhyeon.specs.Action.{Action, mark, literal, named, alone, signs-none, signs-more, unary, binary, compare, compare-more, compared, list-none, list-one, list-join, list-done, enclose, empty, group, tuple, pair, attribute, apply, index, lambda, expr, assign, return, branch, elif, else, while, for, define, class, program}
 
 -- "Thirteen rules: Program (opened once, always), Line, Simple, Block, Class, E, O, A, C, S, P, U, F"

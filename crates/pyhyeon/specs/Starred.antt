@@ -10,8 +10,8 @@ use Rattle.source.specs.Text.{bytes}
 use Rattle.literal.specs.declared.Literal.the-variants as L
 use Rattle.token.specs.Code.{If, Not, Identifier, Int, EqualEqual, Less, LParen, RParen, Colon, Comma, Dot, Indent, Dedent, Newline, Eof}
 use Rattle.tokens.specs.Token.{Token}
-use Rattle.pyhyeon.specs.Kind as kind
-use Rattle.pyhyeon.specs.Node.{Node, none, words, allFit}
+use Rattle.ast.specs.Kind as kind
+use Rattle.ast.specs.Node.{Node, none, words, allFit}
 use Rattle.pyhyeon.specs.Machine.{made}
 use Rattle.pyhyeon.specs.Reading.{Work, Descended, Accepted, TooDeep, Misfit, Tried, Fits, Fails, workOf, descent, trial}
 

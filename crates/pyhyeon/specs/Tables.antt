@@ -11,7 +11,7 @@ use Rattle.token.specs.Code.{Plus, Minus, Star, SlashSlash, Slash, Percent, Equ
 use Rattle.token.specs.Code.{LParen, RParen, LBracket, RBracket, LBrace, RBrace, Colon, Comma, Semicolon, Indent, Dedent, Newline, Eof}
 use Rattle.token.specs.Code as token
 use Rattle.pyhyeon.specs.Symbol.{Tee}
-use Rattle.pyhyeon.specs.Kind as kind
+use Rattle.ast.specs.Kind as kind
 use Rattle.pyhyeon.specs.Action.{Action, mark, literal, named, alone, list-none, list-one, list-join, list-done, enclose, empty, group, tuple, pair, expr, assign, return, program}
 use Rattle.pyhyeon.specs.Rules.{Rule, Program, Line, Simple, Block, Class, E, O, A, C, S, P, U, F, tk, more, list, entry, rest, simples, newlines, comparisons, literals, postfix, plain}
 

@@ -5,7 +5,7 @@ use mathlib.Core.Bool.{Bool, true, false, _&&_, _||_}
 use mathlib.Core.List.{List, [], _∷_}
 use lib.Dec.{eqb, ltb}
 use lib.ListN.{getD}
-use Rattle.pyhyeon.specs.Kind as kind
+use Rattle.ast.specs.Kind as kind
 
 -- "N records of 8 words: kind, start, end, next, p, q, r, s"
 pub record Node : Type 0 where
