@@ -6,3 +6,5 @@ pub mod Values
 pub mod Finding
 pub mod Enough
 pub mod Running
+pub mod Promise
+pub mod Laws
