@@ -8,3 +8,4 @@ pub mod Enough
 pub mod Running
 pub mod Promise
 pub mod Laws
+mod Examples
