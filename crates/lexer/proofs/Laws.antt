@@ -29,7 +29,7 @@ use Rattle.literal.specs.declared.Lexed.the-variants.{Value}
 use Rattle.raw_token.specs.Table.{tokenAt}
 use Rattle.raw_token.specs.declared.RawToken.the-variants.{Found}
 use Rattle.raw_token.proofs.Within.{token-within}
-use Rattle.raw_token.proofs.Laws.{token-code}
+use Rattle.raw_token.proofs.Laws.{token-code, string-quotes}
 use Rattle.lexer.specs.Value.{valueOf, textOf}
 use Rattle.lexer.specs.Scan.{scanned, mark, tokenList}
 use Rattle.lexer.proofs.Values.{length-part}
@@ -48,11 +48,12 @@ pub data Pairs (R : Token → Token → Type 0) : List Token → Type 0 where
   none : Pairs R []
   more : {t : Token} {ts : List Token} → Each (R t) ts → Pairs R ts → Pairs R (t ∷ ts)
 
--- a token lies within n bytes; all but Dedent and Eof have a byte or more
+-- a token lies within n bytes; all but Dedent and Eof have a byte or more, and a String has its two quotes
 pub record Spanned (n : ℕ) (t : Token) : Type 0 where
   pub ordered : t .start ≤ t .end
   pub within : t .end ≤ n
   pub some : (t .code ≡ Code.Dedent → ⊥) → (t .code ≡ Code.Eof → ⊥) → t .start < t .end
+  pub quotes : t .code ≡ Code.String → t .start + 2 ≤ t .end
 
 -- the token t stands before the token u. Several Dedents of one line span the same spaces; any other token starts at or behind the end of t
 pub record Before (t u : Token) : Type 0 where
@@ -134,12 +135,19 @@ few-bytes {s} (raw {start} {code} {end} {bs} h k e f t) =
 few-bytes (eof h k) = omega arith
 
 spanned : {s : List ℕ} {lo hi depth used : ℕ} {ts : List Token} {bs : List ℕ} → Tokens s lo hi depth used ts bs → Each (Spanned (length s)) ts
-spanned (indent {start} {end} h k m n t) = more {t = mark Code.Indent start end} (record { ordered = omega arith; within = n; some = λ a b. omega arith }) (spanned t)
-spanned (dedent h k m n t) = more (record { ordered = m; within = n; some = λ a b. absurd (a refl) }) (spanned t)
+spanned (indent {start} {end} h k m n t) =
+    more {t = mark Code.Indent start end} (record { ordered = omega arith; within = n; some = λ a b. omega arith; quotes = λ c. m }) (spanned t)
+spanned (dedent {start} {end} h k m n t) =
+    more {t = mark Code.Dedent start end} (record { ordered = m; within = n; some = λ a b. absurd (a refl); quotes = λ c. absurd (omega arith) }) (spanned t)
 spanned {s} (raw {start} {code} {end} {v} h k e f t) =
     let w = token-within s start code end e in
-    more {t = token code start end v} (record { ordered = omega arith; within = w .1; some = λ a b. w .0 }) (spanned t)
-spanned {s} (eof h k) = more (record { ordered = le-refl (length s); within = le-refl (length s); some = λ a b. absurd (b refl) }) none
+    more {t = token code start end v}
+    (record { ordered = omega arith; within = w .1; some = λ a b. w .0; quotes = λ c. string-quotes s start end (rw c at e) })
+    (spanned t)
+spanned {s} (eof h k) =
+    more {t = mark Code.Eof (length s) (length s)}
+    (record { ordered = le-refl (length s); within = le-refl (length s); some = λ a b. absurd (b refl); quotes = λ c. absurd (omega arith) })
+    none
 
 -- what stands behind a token that starts at `lo` and ends at `hi`
 record Behind (lo hi : ℕ) (u : Token) : Type 0 where
