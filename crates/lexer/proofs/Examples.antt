@@ -6,25 +6,16 @@ use mathlib.Core.List.{List, [], _∷_, _++_}
 use Prim.Native.Nat.{ℕ}
 use lib.IntN.{negsuc}
 use Rattle.source.specs.Text.{bytes}
-use Rattle.numbers.specs.Digits.{number, place}
-use Rattle.numbers.specs.Integer.{inRange, integerOf}
-use Rattle.numbers.specs.Decimal.{decimalOf}
-use Rattle.strings.specs.Decoded.{decoded}
 use Rattle.token.specs.Code as C
 use Rattle.tokens.specs.Token.{Token, token}
-use Rattle.literal.specs.Literal.{lexInteger, lexFloat, lexString}
 use Rattle.literal.specs.declared.Literal.the-variants as L
-use Rattle.raw_token.specs.Pattern as P
-use Rattle.raw_token.specs.Table.{table, tokenAt}
-use Rattle.lexer.specs.Gap.{gapEnd}
-use Rattle.lexer.specs.Indentation.{levelOf, indentationAt}
-use Rattle.lexer.specs.Value.{valueOf, textOf}
-use Rattle.lexer.specs.Scan.{scanned, mark, indentThen, closed, tokenThen, scanFrom, tokenList}
+use Rattle.lexer.specs.Scan.{scanned, mark, tokenList}
+use Rattle.lexer.proofs.Computed.{computed}
 use Rattle.lexer.specs.Steps.{Left, filled, none, left}
 
 says : List ℕ → Left
-unfolding P.behind P.literal P.name P.int P.exponent P.fraction P.float table tokenAt number inRange integerOf decimalOf place decoded lexInteger lexFloat lexString gapEnd levelOf indentationAt valueOf textOf indentThen closed tokenThen scanFrom tokenList
-says s = left [] [] (tokenList s)
+unfolding computed
+says s = left [] [] (computed s)
 
 -- ---- 01's scripts
 

@@ -8,4 +8,5 @@ pub mod Enough
 pub mod Running
 pub mod Promise
 pub mod Laws
+pub mod Computed
 mod Examples
