@@ -1,10 +1,10 @@
--- `leaf_cases::line_end` meets its contract: i stays between `at` and the end.
+-- `cases::lines::line_end` meets its contract: i stays between `at` and the end.
 -- Assumes nothing.
 use Prim.Native.Nat.{_≤_, _-_}
 use lib.ListN.{length}
 use borrow.Author.Needs.{needs}
-use Rattle.leaf_cases.proofs.line_end.Statement.{statement}
-use Rattle.leaf_cases.proofs.line_end.Tie as tie
+use Rattle.cases.proofs.lines.line_end.Statement.{statement}
+use Rattle.cases.proofs.lines.line_end.Tie as tie
 
 abbrev Inv-loop : tie.InvT-loop
 Inv-loop text at i₀ i = (at ≤ i) × (i ≤ length text)

@@ -1,4 +1,4 @@
--- `leaf_cases::hex::unhex` meets its contract: n stays within out, and i at most one past the digits.
+-- `cases::hex::unhex` meets its contract: n stays within out, and i at most one past the digits.
 -- Assumes nothing.
 use Prim.Native.Nat.{_≤_, _+_, _-_, _*_}
 use mathlib.Core.Path.{_≡_, sym}
@@ -6,8 +6,8 @@ use native.Mathlib.Omega.{arith}
 use lib.ListN.{length, length-set}
 use lib.Seq.{length-take-le}
 use borrow.Author.Needs.{needs}
-use Rattle.leaf_cases.proofs.hex.unhex.Statement.{statement}
-use Rattle.leaf_cases.proofs.hex.unhex.Tie as tie
+use Rattle.cases.proofs.hex.unhex.Statement.{statement}
+use Rattle.cases.proofs.hex.unhex.Tie as tie
 
 abbrev Inv-loop : tie.InvT-loop
 Inv-loop hex out₀ n₀ i₀ out n i = (n ≤ length out) × (length out ≡ length out₀) × (1 ≤ i) × (i ≤ length hex + 1)
