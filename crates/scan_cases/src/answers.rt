@@ -4,7 +4,6 @@ use cases::print;
 use lexer::Scanned;
 use libc::STDOUT_FILENO;
 ghost use Prim.Native.Nat.{_≤_};
-ghost use lib.ListN.{length};
 
 // The slices are longer than their areas, and hold these before the scan. No word of a token is so large, and no decoded text has such a byte.
 const GUARD_WORD: u32 = 4294967295;
