@@ -3,7 +3,7 @@
 
     python3 tools/scan_cases.py crates/scan_cases
 
-The sources are the picked ones of tools/reference/token_cases.py, every second generated one if it is short, and the lists below. Every expected line is made by
+The sources are the picked ones of tools/reference/token_cases.py, every third generated one if it is short, and the lists below. Every expected line is made by
 tools/reference/scan.py, which was written from document 01 alone. Nothing is taken from what the program prints.
 """
 import os
@@ -77,8 +77,8 @@ def texts():
 
 
 def some(sources):
-    """Every second source, up to LONGEST_SCRIPT, and the first few that are longer."""
-    sources = list(sources)[::2]
+    """Every third source, up to LONGEST_SCRIPT, and the first few that are longer."""
+    sources = list(sources)[::3]
     longer = [source for source in sources if len(source) > LONGEST_SCRIPT][:LONGER_SCRIPTS]
     return [source for source in sources if len(source) <= LONGEST_SCRIPT or source in longer]
 
