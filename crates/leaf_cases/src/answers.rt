@@ -1,5 +1,6 @@
 // What a leaf answers for one case, printed.
-use crate::hex::print_bytes;
+use cases::hex::print_bytes;
+use cases::print;
 use libc::STDOUT_FILENO;
 use numbers::decimal::Decimal;
 use numbers::halves::Halves;
@@ -11,10 +12,6 @@ ghost use lib.ListN.{length};
 
 // Where a decoded string begins in the text, so that its place plays a part.
 const TEXT_AT: usize = 1;
-
-pub fn print(text: &[u8]) {
-    io::write_all(STDOUT_FILENO, text);
-}
 
 fn print_halves(h: Halves) {
     io::print_hex(STDOUT_FILENO, h.high as u64, 8);

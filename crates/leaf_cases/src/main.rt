@@ -9,17 +9,15 @@
 //
 // docs/CASES.md says how the cases were made.
 mod answers;
-mod hex;
 
-use answers::print;
 use answers::print_float;
 use answers::print_int;
 use answers::print_string;
 use answers::print_tokens;
 use answers::print_utf8;
-use hex::unhex;
-ghost use Prim.Native.Nat.{_≤_};
-ghost use lib.ListN.{length};
+use cases::hex::unhex;
+use cases::lines::line_end;
+use cases::print;
 
 // The result of a case whose bytes are written in hexadecimal.
 fn print_bytes_case(letter: u8, hex: &[u8]) {
@@ -50,21 +48,6 @@ fn print_case(line: &[u8]) {
     print(b"\n");
 }
 
-// The place of the first line feed from `at` on, or the end.
-fn line_end(text: &[u8], at: usize) -> usize
-    requires { ⌜ at ≤ length (now text) ⌝ }
-    ensures { λ r. ⌜ (at ≤ r) × (r ≤ length (now (text .entry))) ⌝ }
-{
-    let mut i = at;
-    while i < text.len() {
-        if text[i] == b'\n' {
-            return i;
-        }
-        i += 1;
-    }
-    i
-}
-
 // Each line of text, the last with or without its line feed.
 fn print_cases(text: &[u8]) {
     let mut at: usize = 0;
@@ -76,14 +59,8 @@ fn print_cases(text: &[u8]) {
 }
 
 fn print_file(path: &[u8]) {
-    let fd = os::open_read(path);
-    if fd < 0 {
-        os::fail(path);
-        return;
-    }
     let mut buffer = io::large_buffer();
-    let n = io::read_full(fd, &mut buffer);
-    libc::close(fd);
+    let n = cases::lines::read(path, &mut buffer);
     print_cases(&buffer[..n]);
 }
 

@@ -1,10 +1,10 @@
--- `leaf_cases::hex::print_bytes` is safe and ends.
+-- `cases::hex::print_bytes` is safe and ends.
 -- Assumes nothing.
 use Prim.Native.Nat.{_≤_, _-_}
 use lib.ListN.{length}
 use borrow.Author.Needs.{needs}
-use Rattle.leaf_cases.proofs.hex.print_bytes.Statement.{statement}
-use Rattle.leaf_cases.proofs.hex.print_bytes.Tie as tie
+use Rattle.cases.proofs.hex.print_bytes.Statement.{statement}
+use Rattle.cases.proofs.hex.print_bytes.Tie as tie
 
 abbrev Inv-loop : tie.InvT-loop
 Inv-loop s i₀ i = i ≤ length s
