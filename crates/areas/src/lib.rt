@@ -9,10 +9,10 @@ pub fn zero_words(s: &mut [u32], from: usize, to: usize)
     requires { ⌜ (from ≤ to) × (to ≤ length (now s)) ⌝ }
     ensures { λ _. ⌜ now (s .exit) ≡ zeroed from to (now (s .entry)) ⌝ }
 {
-    let mut i = from;
-    while i < to {
-        s[i] = 0;
-        i += 1;
+    let mut word = from;
+    while word < to {
+        s[word] = 0;
+        word += 1;
     }
 }
 
@@ -20,9 +20,9 @@ pub fn zero_bytes(s: &mut [u8], from: usize, to: usize)
     requires { ⌜ (from ≤ to) × (to ≤ length (now s)) ⌝ }
     ensures { λ _. ⌜ now (s .exit) ≡ zeroed from to (now (s .entry)) ⌝ }
 {
-    let mut i = from;
-    while i < to {
-        s[i] = 0;
-        i += 1;
+    let mut byte = from;
+    while byte < to {
+        s[byte] = 0;
+        byte += 1;
     }
 }

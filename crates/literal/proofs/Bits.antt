@@ -12,7 +12,6 @@ use Rattle.numbers.specs.Decimal.{decimalOf}
 use Rattle.numbers.specs.Integer.{integerOf}
 use Rattle.numbers.proofs.Nearest.{no-nan}
 use Rattle.literal.specs.declared.Literal.{Literal}
-use Rattle.literal.specs.declared.Literal.the-variants as L
 use Rattle.literal.specs.declared.Lexed.{Lexed}
 use Rattle.literal.specs.declared.Lexed.the-variants.{Value, Refused}
 use Rattle.literal.specs.Literal.{ofInteger, ofDecimal, lexInteger, lexFloat, lexString, hasBits}

@@ -1,11 +1,10 @@
 -- The digits of a literal joined into a number, its sign, and the place of a byte in it.
 -- Assumes nothing.
-use Prim.Native.Nat.{ℕ, suc, _+_, _-_, _*_, _≤_}
-use mathlib.Core.Path.{_≡_}
+use Prim.Native.Nat.{ℕ, suc, _+_, _-_, _*_}
 use mathlib.Core.Bool.{Bool, cond, _||_}
 use mathlib.Core.List.{List, [], _∷_}
 use lib.Dec.{eqb}
-use lib.ListN.{length, getD, take}
+use lib.ListN.{getD}
 use Rattle.source.specs.Bytes.{digit}
 
 -- the byte b, if it is a digit, joined to the right of n; a sign and a dot leave n as it is
@@ -26,9 +25,3 @@ isMinus s = eqb (getD s 0 0) 45
 unfoldable pub place : ℕ → ℕ → List ℕ → ℕ
 place x y [] = 0
 place x y (b ∷ r) = cond (eqb b x || eqb b y) 0 (suc (place x y r))
-
--- What the private search for x or y in s answers. The last field is what lending `&s[..r]` asks, so a caller that lends it shows nothing.
-pub record Found (x y : ℕ) (s : List ℕ) (r : ℕ) : Type 0 where
-  pub is : r ≡ place x y s
-  pub within : r ≤ length s
-  pub counted : r ≡ length (take r s)

@@ -22,8 +22,8 @@ loop-holds c = (refl, c .pre .0, refl)
 slice-write-s : tie.Need-slice-write-s Inv-loop μ-loop
 slice-write-s c = search needs
 
-add-i : tie.Need-add-i Inv-loop μ-loop
-add-i c = search needs
+add-byte : tie.Need-add-byte Inv-loop μ-loop
+add-byte c = search needs
 
 loop-less : tie.Need-loop-less Inv-loop μ-loop
 loop-less c = search needs
@@ -31,7 +31,7 @@ loop-less c = search needs
 loop-again : tie.Need-loop-again Inv-loop μ-loop
 loop-again c =
     let l = c .before .loop in
-    (length-set (l .s) (l .i) 0 ∙ l .inv .0, search needs, turn (l .i) _ (l .s) (c .loop-test .taken) (omega arith) ∙ l .inv .2)
+    (length-set (l .s) (l .byte) _ ∙ l .inv .0, search needs, turn (l .byte) _ (l .s) (c .loop-test .taken) (omega arith) ∙ l .inv .2)
 
 same-length : tie.Need-same-length Inv-loop μ-loop
 same-length c = c .before .loop .inv .0
@@ -39,7 +39,7 @@ same-length c = c .before .loop .inv .0
 returns : tie.Need-returns Inv-loop μ-loop
 returns c =
     let l = c .before .loop in
-    sym (done (l .i) _ (l .s) (omega arith)) ∙ l .inv .2
+    sym (done (l .byte) _ (l .s) (omega arith)) ∙ l .inv .2
 
 pub zero-bytes-spec : {M : Type 1} → statement M
 zero-bytes-spec =
@@ -49,7 +49,7 @@ zero-bytes-spec =
     μ-loop
     loop-holds
     slice-write-s
-    add-i
+    add-byte
     loop-less
     loop-again
     same-length

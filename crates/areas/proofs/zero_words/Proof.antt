@@ -25,8 +25,8 @@ mul-s c = search needs
 slice-write-s : tie.Need-slice-write-s Inv-loop μ-loop
 slice-write-s c = search needs
 
-add-i : tie.Need-add-i Inv-loop μ-loop
-add-i c = search needs
+add-word : tie.Need-add-word Inv-loop μ-loop
+add-word c = search needs
 
 loop-less : tie.Need-loop-less Inv-loop μ-loop
 loop-less c = search needs
@@ -34,7 +34,7 @@ loop-less c = search needs
 loop-again : tie.Need-loop-again Inv-loop μ-loop
 loop-again c =
     let l = c .before .loop in
-    (length-set (l .s) (l .i) 0 ∙ l .inv .0, search needs, turn (l .i) _ (l .s) (c .loop-test .taken) (omega arith) ∙ l .inv .2)
+    (length-set (l .s) (l .word) _ ∙ l .inv .0, search needs, turn (l .word) _ (l .s) (c .loop-test .taken) (omega arith) ∙ l .inv .2)
 
 same-length : tie.Need-same-length Inv-loop μ-loop
 same-length c = c .before .loop .inv .0
@@ -42,7 +42,7 @@ same-length c = c .before .loop .inv .0
 returns : tie.Need-returns Inv-loop μ-loop
 returns c =
     let l = c .before .loop in
-    sym (done (l .i) _ (l .s) (omega arith)) ∙ l .inv .2
+    sym (done (l .word) _ (l .s) (omega arith)) ∙ l .inv .2
 
 pub zero-words-spec : {M : Type 1} → statement M
 zero-words-spec =
@@ -53,7 +53,7 @@ zero-words-spec =
     loop-holds
     mul-s
     slice-write-s
-    add-i
+    add-word
     loop-less
     loop-again
     same-length
