@@ -2,7 +2,7 @@
 -- Assumes nothing.
 use mathlib.Core.Path.{_≡_, refl}
 use mathlib.Core.Bool.{true}
-use mathlib.Core.List.{List, [], _∷_, _++_}
+use mathlib.Core.List.{List, [], _∷_}
 use Prim.Native.Nat.{ℕ}
 use lib.IntN.{negsuc}
 use Rattle.source.specs.Text.{bytes}
@@ -11,7 +11,7 @@ use Rattle.numbers.specs.Integer.{inRange, integerOf}
 use Rattle.numbers.specs.Decimal.{decimalOf}
 use Rattle.strings.specs.Decoded.{decoded}
 use Rattle.token.specs.Code as C
-use Rattle.tokens.specs.Token.{Token, token}
+use Rattle.tokens.specs.Token.{token}
 use Rattle.literal.specs.Literal.{lexInteger, lexFloat, lexString}
 use Rattle.literal.specs.declared.Literal.the-variants as L
 use Rattle.raw_token.specs.Pattern as P

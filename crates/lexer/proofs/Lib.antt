@@ -7,5 +7,6 @@ pub mod Finding
 pub mod Enough
 pub mod Running
 pub mod Promise
+pub mod Properties
 pub mod Laws
 mod Examples
