@@ -9,5 +9,6 @@ pub mod Running
 pub mod Promise
 pub mod Properties
 pub mod Laws
+pub mod Refusals
 pub mod Computed
 mod Examples

@@ -1,5 +1,6 @@
 -- The token list of a source (01, Raw tokens, Indentation, and questions 6 to 12): all that the crates above cite of the scanner.
--- The state is the code's struct Lexer: `at`, the place reached; `flag`; `top`, the deepest open level; the tokens so far; `used`, the text so far.
+-- The state is the code's struct Lexer: `at`, the place reached; `flag`; `top`, the deepest open level; `count`, the tokens so far, which the code needs
+-- and no rule asks; `used`, the text so far, which a String's offset needs.
 -- Assumes nothing.
 use Prim.Native.Nat.{ℕ, zero, suc, _+_, _/_}
 use mathlib.Core.Bool.{Bool, true, false, cond, _||_}
@@ -27,7 +28,7 @@ pub data Scan : Type 0 where
   scanned : List Token → List ℕ → Scan
   refused : ℕ → ℕ → Scan
 
--- tokens and text in front of what follows; a refusal behind them refuses all
+-- tokens and text in front of what follows; the first refusal refuses all: "Then the earliest in the source"
 abbrev pub prepend : List Token → List ℕ → Scan → Scan
 prepend ts bs (scanned us cs) = scanned (ts ++ us) (bs ++ cs)
 prepend ts bs (refused n p) = refused n p

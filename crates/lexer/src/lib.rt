@@ -31,13 +31,13 @@ pub struct Lexer {
 }
 
 // A line's spaces are counted, or refused.
-pub enum Marked {
+enum Marked {
     On(Lexer),
     No { number: u32, place: usize },
 }
 
 // A token is written, or the last one was, or the source is refused.
-pub enum Turn {
+enum Turn {
     On(Lexer),
     End { count: usize, used: usize },
     No { number: u32, place: usize },

@@ -1,6 +1,6 @@
 // The spaces that open a line.
 ghost use mathlib.Core.Path.{_≡_};
-ghost use Prim.Native.Nat.{_≤_, _<_, _^_};
+ghost use Prim.Native.Nat.{_-_, _≤_, _<_, _^_};
 ghost use lib.ListN.{length};
 ghost use Rattle.lexer.specs.Indentation.{spacesEnd, levelOf, indentationAt};
 
@@ -39,6 +39,26 @@ fn spaces_end(s: &[u8], at: usize) -> usize
     i
 }
 
+// What the spaces from `at` to `end` say where they are more than the top: one step more, or too many or too few.
+fn deeper(at: usize, end: usize, top: usize) -> Indentation
+    requires { ⌜ (top < end - at) × (top < 2 ^ 32) ⌝ }
+    ensures { λ r. ⌜ r ≡ levelOf at end top ⌝ }
+{
+    let spaces = end - at;
+    if spaces == top + STEP {
+        return Indentation::Level {
+            end,
+            code: token::INDENT,
+            marks: 1,
+            top: spaces,
+        };
+    }
+    Indentation::No {
+        number: 7,
+        place: at,
+    }
+}
+
 // What the spaces from `at` to `end` say, against the top.
 fn level(at: usize, end: usize, top: usize) -> Indentation
     requires { ⌜ (at ≤ end) × (top < 2 ^ 32) ⌝ }
@@ -54,18 +74,7 @@ fn level(at: usize, end: usize, top: usize) -> Indentation
         };
     }
     if top < spaces {
-        if spaces == top + STEP {
-            return Indentation::Level {
-                end,
-                code: token::INDENT,
-                marks: 1,
-                top: spaces,
-            };
-        }
-        return Indentation::No {
-            number: 7,
-            place: at,
-        };
+        return deeper(at, end, top);
     }
     if spaces % STEP == 0 {
         return Indentation::Level {

@@ -68,7 +68,7 @@ pub fn literal_of(src: &[u8], code: u32, start: usize, end: usize, used: u32) ->
         token::BOOL => Literal::Bool(source::byte(bytes, 0) == b'T'),
         token::INT => value_in(literal::lex_integer(bytes)),
         token::FLOAT => value_in(literal::lex_float(bytes)),
-        token::STRING => literal::string_literal(bytes, used),
+        token::STRING => literal::lex_string(bytes, used),
         _ => Literal::None,
     }
 }

@@ -1,4 +1,5 @@
--- A token: its code, the places in the source where it starts and ends, and the literal that it stands for (None where it is no literal).
+-- A token (01, Questions: "code, start, end each, Eof last"): its code, the places in the source where it starts and ends, and the literal that it
+-- stands for (None where it is no literal).
 -- A list of these, with Eof last, is what the scanner promises and all that the tree reader relies on.
 -- Assumes nothing.
 use Prim.Native.Nat.{ℕ}

@@ -37,8 +37,8 @@ lex-float-requires c κs = search needs
 value-in-requires-2 : tie.Need-value-in-requires-2
 value-in-requires-2 c κs = search needs
 
-string-literal-requires : tie.Need-string-literal-requires
-string-literal-requires c κs =
+lex-string-requires : tie.Need-lex-string-requires
+lex-string-requires c κs =
     let a = c .before .before .before .args in
     let q = c .before .before .before .pre .1 (c .match .keys4) in
     let n = length-part (now (a .src)) (a .start) (a .end) (c .before .before .before .pre .0 .1) in
@@ -63,7 +63,7 @@ returns-3 c =
 returns-4 : tie.Need-returns-4
 returns-4 c =
     let a = c .before .before .before .before .args in
-    c .string-literal .ensures ∙ sym (ap literalIn (value-string (a .code) (part (now (a .src)) (a .start) (a .end)) (a .used) (c .before .match .keys4)))
+    c .lex-string .ensures ∙ sym (ap literalIn (value-string (a .code) (part (now (a .src)) (a .start) (a .end)) (a .used) (c .before .match .keys4)))
 
 returns-5 : tie.Need-returns-5
 returns-5 c =
@@ -82,7 +82,7 @@ literal-of-spec =
     value-in-requires
     lex-float-requires
     value-in-requires-2
-    string-literal-requires
+    lex-string-requires
     returns
     returns-2
     returns-3
