@@ -2,12 +2,12 @@
 -- Assumes nothing.
 use mathlib.Core.Path.{_≡_, refl}
 use mathlib.Core.Bool.{true}
-use mathlib.Core.List.{List, [], _∷_, _++_}
+use mathlib.Core.List.{List, [], _∷_}
 use Prim.Native.Nat.{ℕ}
 use lib.IntN.{negsuc}
 use Rattle.source.specs.Text.{bytes}
 use Rattle.token.specs.Code as C
-use Rattle.tokens.specs.Token.{Token, token}
+use Rattle.tokens.specs.Token.{token}
 use Rattle.literal.specs.declared.Literal.the-variants as L
 use Rattle.lexer.specs.Scan.{scanned, mark, tokenList}
 use Rattle.lexer.proofs.Computed.{computed}

@@ -1,11 +1,11 @@
--- What holds of every token list: its length, its spans, its Eof, its levels, its codes and its literals. The crates above cite these laws; each is
--- an induction on the derivation of proofs/Promise.antt.
+-- What holds of every token list: its length, its spans, its Eof, its levels, its codes and its literals. The crates above cite the laws at the
+-- end; each is an induction on the derivation of proofs/Promise.antt. What they say stands in proofs/Properties.antt.
 -- Assumes nothing.
 use mathlib.Core.Path.{_≡_, refl, sym, ap, _∙_, subst}
 use mathlib.Core.Bool.{Bool, true, false, cond}
 use mathlib.Core.List.{List, [], _∷_, _++_, append-assoc}
 use mathlib.Core.Logic.{_⊎_, inl, inr}
-use Prim.Native.Nat.{ℕ, zero, suc, _+_, _-_, _<_, _≤_, zero-le}
+use Prim.Native.Nat.{ℕ, zero, suc, _+_, _-_, _≤_, zero-le}
 use native.Mathlib.Nat.{le-refl, le-trans}
 use native.Mathlib.Omega.{arith}
 use lib.Dec.{eqb}
@@ -34,79 +34,8 @@ use Rattle.lexer.specs.Value.{valueOf, textOf}
 use Rattle.lexer.specs.Scan.{scanned, mark, tokenList}
 use Rattle.lexer.proofs.Values.{length-part}
 use Rattle.lexer.proofs.Finding.{text-short}
+use Rattle.lexer.proofs.Properties.{Each, Each.none, Each.more, Pairs, Spanned, Before, EofLast, count, Balanced, Coded, Valued, Held, InText}
 use Rattle.lexer.proofs.Promise.{Tokens, indent, dedent, raw, eof, promise}
-
--- ---- what the laws say
-
--- each token is so
-pub data Each (P : Token → Type 0) : List Token → Type 0 where
-  none : Each P []
-  more : {t : Token} {ts : List Token} → P t → Each P ts → Each P (t ∷ ts)
-
--- each token is so with each token behind it
-pub data Pairs (R : Token → Token → Type 0) : List Token → Type 0 where
-  none : Pairs R []
-  more : {t : Token} {ts : List Token} → Each (R t) ts → Pairs R ts → Pairs R (t ∷ ts)
-
--- a token lies within n bytes; all but Dedent and Eof have a byte or more, and a String has its two quotes
-pub record Spanned (n : ℕ) (t : Token) : Type 0 where
-  pub ordered : t .start ≤ t .end
-  pub within : t .end ≤ n
-  pub some : (t .code ≡ Code.Dedent → ⊥) → (t .code ≡ Code.Eof → ⊥) → t .start < t .end
-  pub quotes : t .code ≡ Code.String → t .start + 2 ≤ t .end
-
--- the token t stands before the token u. Several Dedents of one line span the same spaces; any other token starts at or behind the end of t
-pub record Before (t u : Token) : Type 0 where
-  pub starts : t .start ≤ u .start
-  pub ends : t .end ≤ u .end
-  pub apart : (u .code ≡ Code.Dedent → ⊥) → t .end ≤ u .start
-
--- Eof once, last, at n
-pub record EofLast (n : ℕ) (ts : List Token) : Type 0 where
-  pub front : List Token
-  pub last : ts ≡ front ++ mark Code.Eof n n ∷ []
-  pub once : Each (λ t. t .code ≡ Code.Eof → ⊥) front
-
--- how many tokens have the code
-abbrev pub count : ℕ → List Token → ℕ
-count code [] = 0
-count code (t ∷ ts) = cond (eqb (t .code) code) (suc (count code ts)) (count code ts)
-
--- as many Dedents as Indents, and never more of them up to a place
-pub record Balanced (ts : List Token) : Type 0 where
-  pub whole : count Code.Dedent ts ≡ count Code.Indent ts
-  pub front : (k : ℕ) → count Code.Dedent (take k ts) ≤ count Code.Indent (take k ts)
-
--- a code of 01
-pub record Coded (t : Token) : Type 0 where
-  pub least : Code.If ≤ t .code
-  pub greatest : t .code ≤ Code.Eof
-
--- the bytes of a token
-abbrev pub bytesOf : List ℕ → Token → List ℕ
-bytesOf s t = part s (t .start) (t .end)
-
--- each token has the value of its code, its bytes and the bytes of text before it, and the text is the tokens' one after the other
-pub data Valued (s : List ℕ) : ℕ → List Token → List ℕ → Type 0 where
-  none : {used : ℕ} → Valued s used [] []
-  more : {used : ℕ} {t : Token} {ts : List Token} {bs : List ℕ} → valueOf (t .code) (bytesOf s t) used ≡ Value (t .literal)
-      → Valued s (used + length (textOf (t .code) (bytesOf s t))) ts bs → Valued s used (t ∷ ts) (textOf (t .code) (bytesOf s t) ++ bs)
-
--- a literal of a token with the bytes l: a String's place and length lie within the text, and what stands there is what l decodes to
-abbrev pub Held : List ℕ → List ℕ → Literal → Type 0
-Held text l (L.Bool b) = Unit {0}
-Held text l (L.Int n) = Unit {0}
-Held text l (L.String at n) = (at + n ≤ length text) × (part text at (at + n) ≡ decoded (unquoted l))
-Held text l (L.Float x) = Unit {0}
-Held text l L.None = Unit {0}
-
-abbrev pub InText : List ℕ → List ℕ → Token → Type 0
-InText s text t = Held text (bytesOf s t) (t .literal)
-
-pub each-at : {P : Token → Type 0} {ts : List Token} → Each P ts → (i : ℕ) (d : Token) → i < length ts → P (getD ts i d)
-each-at none i d h = absurd (omega arith)
-each-at (more p e) zero d h = p
-each-at (more p e) (suc i) d h = each-at e i d (omega arith)
 
 -- ---- the laws of a derivation
 
@@ -175,10 +104,10 @@ next start end code v t =
     each (λ u b. record { starts = b .starts; ends = b .ends; apart = b .apart }) (behind start end (le-refl start) (le-refl end) t)
 
 ascending : {s : List ℕ} {lo hi depth used : ℕ} {ts : List Token} {bs : List ℕ} → Tokens s lo hi depth used ts bs → Pairs Before ts
-ascending (indent {start} {end} h k m n t) = more (next start end Code.Indent L.None t) (ascending t)
-ascending (dedent {start} {end} h k m n t) = more (next start end Code.Dedent L.None t) (ascending t)
-ascending (raw {start} {code} {end} {v} h k e f t) = more (next start end code v t) (ascending t)
-ascending (eof h k) = more none none
+ascending (indent {start} {end} h k m n t) = Pairs.more (next start end Code.Indent L.None t) (ascending t)
+ascending (dedent {start} {end} h k m n t) = Pairs.more (next start end Code.Dedent L.None t) (ascending t)
+ascending (raw {start} {code} {end} {v} h k e f t) = Pairs.more (next start end code v t) (ascending t)
+ascending (eof h k) = Pairs.more none Pairs.none
 
 behind-other : (s : List ℕ) (t : Token) {ts : List Token} → (t .code ≡ Code.Eof → ⊥) → EofLast (length s) ts → EofLast (length s) (t ∷ ts)
 behind-other s t h e = record { front = t ∷ e .front; last = ap (λ l. t ∷ l) (e .last); once = more h (e .once) }
@@ -223,14 +152,14 @@ mark-valued : (s : List ℕ) (code start end used : ℕ) {ts : List Token} {bs :
     → Valued s used ts bs → Valued s used (mark code start end ∷ ts) bs
 mark-valued s code start end used {ts} {bs} v e t =
     let n : used ≡ used + length (textOf code (part s start end)) = omega (arith, ap length e) in
-    subst (λ (l : List ℕ). Valued s used (mark code start end ∷ ts) (l ++ bs)) e (more v (subst (λ (k : ℕ). Valued s k ts bs) n t))
+    subst (λ (l : List ℕ). Valued s used (mark code start end ∷ ts) (l ++ bs)) e (Valued.more v (subst (λ (k : ℕ). Valued s k ts bs) n t))
 
 valued : {s : List ℕ} {lo hi depth used : ℕ} {ts : List Token} {bs : List ℕ} → Tokens s lo hi depth used ts bs → Valued s used ts bs
 unfolding valueOf textOf
 valued {s} {used} (indent {start} {end} h k m n t) = mark-valued s Code.Indent start end used refl refl (valued t)
 valued {s} {used} (dedent {start} {end} h k m n t) = mark-valued s Code.Dedent start end used refl refl (valued t)
-valued (raw h k e f t) = more f (valued t)
-valued {s} {used} (eof h k) = mark-valued s Code.Eof (length s) (length s) used refl refl none
+valued (raw h k e f t) = Valued.more f (valued t)
+valued {s} {used} (eof h k) = mark-valued s Code.Eof (length s) (length s) used refl refl Valued.none
 
 -- a String's text stands behind the text before it
 held : (before l bs : List ℕ) (used code : ℕ) (v : Literal) → used ≡ length before → valueOf code l used ≡ Value v → Held (before ++ (textOf code l ++ bs)) l v

@@ -7,6 +7,7 @@ pub mod Finding
 pub mod Enough
 pub mod Running
 pub mod Promise
+pub mod Properties
 pub mod Laws
 pub mod Computed
 mod Examples
