@@ -1,6 +1,6 @@
 -- One more turn than there are bytes left is enough: any more changes nothing. So the turns can be forgotten (`from-is`).
 -- Assumes nothing.
-use mathlib.Core.Path.{_≡_, refl, ap, _∙_}
+use mathlib.Core.Path.{_≡_, refl, ap}
 use mathlib.Core.Bool.{Bool, true, false, cond, _||_}
 use mathlib.Core.List.{List, [], _∷_}
 use Prim.Native.Nat.{ℕ, zero, suc, _+_, _-_, _%_, _<_, _≤_}
@@ -19,7 +19,7 @@ use Rattle.raw_token.proofs.Within.{token-within}
 use Rattle.lexer.specs.Gap.{gapEnd}
 use Rattle.lexer.specs.Indentation.{step, indentationAt}
 use Rattle.lexer.specs.Value.{valueOf, textOf}
-use Rattle.lexer.specs.Scan.{Scan, refused, prepend, mark, lexer, Rest, marksThen, indentThen, closed, valueThen, foundThen, tokenThen, scanFrom, tokenList}
+use Rattle.lexer.specs.Scan.{refused, prepend, mark, lexer, Rest, marksThen, indentThen, closed, valueThen, foundThen, tokenThen, scanFrom, tokenList}
 use Rattle.lexer.specs.declared.Lexer.{Lexer}
 use Rattle.lexer.specs.declared.line.Indentation.{Indentation}
 use Rattle.lexer.specs.declared.line.Indentation.the-variants.{Blank, Level, No}

@@ -2,13 +2,13 @@
 -- Assumes nothing.
 use mathlib.Core.Path.{_≡_, refl, sym, ap, _∙_, subst}
 use mathlib.Core.Bool.{Bool, true, false, cond, _||_}
-use mathlib.Core.List.{List, [], _∷_, _++_}
-use Prim.Native.Nat.{ℕ, _+_, _-_, _*_, _/_, _<_, _≤_, zero-le}
+use mathlib.Core.List.{List, [], _∷_}
+use Prim.Native.Nat.{ℕ, _+_, _-_, _*_, _<_, _≤_, zero-le}
 use native.Mathlib.Omega.{arith}
 use lib.Dec.{eqb}
 use lib.ListN.{length, getD, take}
 use lib.Seq.{sets}
-use borrow.Author.Tests.{eq-eqb, ne-eqb, lt-ltb, le-ltb}
+use borrow.Author.Tests.{lt-ltb, le-ltb}
 use Rattle.source.specs.Bytes.{part}
 use Rattle.strings.specs.Decoded.{decoded}
 use Rattle.strings.proofs.Bounds.{no-longer}
@@ -19,13 +19,11 @@ use Rattle.literal.specs.declared.Lexed.{Lexed}
 use Rattle.literal.specs.declared.Lexed.the-variants.{Value, Refused}
 use Rattle.raw_token.specs.Table.{tokenAt}
 use Rattle.raw_token.specs.declared.RawToken.{RawToken}
-use Rattle.raw_token.specs.declared.RawToken.the-variants.{Found, NoMatch}
+use Rattle.raw_token.specs.declared.RawToken.the-variants.{Found}
 use Rattle.lexer.specs.Gap.{gapEnd}
-use Rattle.lexer.specs.Indentation.{step}
 use Rattle.lexer.specs.Value.{valueOf, refusalOf, textOf}
 use Rattle.lexer.specs.Scan.{Scan, refused, lexer, Rest, indentThen, closed, valueThen, foundThen, tokenThen}
-use Rattle.lexer.specs.Words.{words}
-use Rattle.lexer.specs.Steps.{Paid, Exact, Left, none, soFar, takenOf, turned, TurnedWithin, Marks, Turns}
+use Rattle.lexer.specs.Steps.{Paid, Exact, none, soFar, takenOf, TurnedWithin, Marks, Turns}
 use Rattle.lexer.specs.declared.Lexer.{Lexer}
 use Rattle.lexer.specs.declared.Marked.{Marked}
 use Rattle.lexer.specs.declared.Marked.the-variants as M

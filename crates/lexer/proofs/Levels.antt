@@ -1,6 +1,6 @@
 -- What a line's spaces say, case by case, and what an answer's marks cost.
 -- Assumes nothing.
-use mathlib.Core.Path.{_≡_, refl, sym, ap, _∙_}
+use mathlib.Core.Path.{_≡_, sym, ap, _∙_}
 use mathlib.Core.Bool.{Bool, true, false, cond, false≢true}
 use mathlib.Core.List.{List, [], _∷_}
 use Prim.Native.Nat.{ℕ, _+_, _-_, _/_, _%_, _<_, _≤_}
@@ -9,7 +9,6 @@ use native.Mathlib.Omega.{arith}
 use lib.Dec.{eqb}
 use lib.ListN.{length, getD, drop, length-drop}
 use borrow.Author.Tests.{eq-eqb, ne-eqb, lt-ltb, le-ltb}
-use Rattle.source.specs.Bytes.{run}
 use Rattle.source.proofs.Lists.{run-le}
 use Rattle.source.proofs.Ranges.{NotIn}
 use Rattle.token.specs.Code.{Indent, Dedent}

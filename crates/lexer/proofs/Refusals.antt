@@ -20,7 +20,7 @@ use Rattle.raw_token.specs.declared.RawToken.the-variants.{Found, NoMatch}
 use Rattle.raw_token.proofs.Within.{token-within}
 use Rattle.lexer.specs.Gap.{gapEnd}
 use Rattle.lexer.specs.Indentation.{step, isBlankLine, levelOf, spacesEnd, indentationAt}
-use Rattle.lexer.specs.Value.{valueOf, refusalOf, textOf}
+use Rattle.lexer.specs.Value.{valueOf, textOf}
 use Rattle.lexer.specs.Scan.{Scan, scanned, refused, prepend, lexer, Rest, marksThen, indentThen, closed, valueThen, foundThen, tokenThen, scanFrom, tokenList}
 use Rattle.lexer.specs.declared.Lexer.{Lexer}
 use Rattle.lexer.specs.declared.line.Indentation.{Indentation}

@@ -1,16 +1,16 @@
 -- What the scanner's loop keeps, and what it comes to; and what zeros behind that make of the slices.
 -- Assumes nothing.
-use mathlib.Core.Path.{_≡_, refl, sym, ap, _∙_, subst}
+use mathlib.Core.Path.{_≡_, sym, ap, _∙_, subst}
 use mathlib.Core.Bool.{true}
 use mathlib.Core.List.{List, [], _++_, append-nil}
 use Prim.Native.Nat.{ℕ, _+_, _-_, _*_, _<_, _≤_}
 use native.Mathlib.Omega.{arith}
-use lib.ListN.{length, take, drop, replicate, drop-of-length-le}
+use lib.ListN.{length, take, replicate, drop-of-length-le}
 use lib.Seq.{length-take-le}
 use Rattle.areas.specs.Area.{tokenArea, zeroed}
 use Rattle.lexer.specs.Scan.{Scan, scanned, refused, lexer, Rest, indentThen, tokenThen, tokenList}
-use Rattle.lexer.specs.Words.{words, answerOf, wordsOf, textBytes}
-use Rattle.lexer.specs.Steps.{Exact, Paid, Left, filled, none, left, soFar, turned, ran, RanWithin, Turns, Runs, Fills}
+use Rattle.lexer.specs.Words.{words}
+use Rattle.lexer.specs.Steps.{Exact, Paid, filled, none, left, soFar, turned, RanWithin, Turns, Runs, Fills}
 use Rattle.lexer.specs.declared.Lexer.{Lexer}
 use Rattle.lexer.specs.declared.Turn.{Turn}
 use Rattle.lexer.specs.declared.Turn.the-variants as T

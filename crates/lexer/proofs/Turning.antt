@@ -1,18 +1,18 @@
 -- What each function of the scanner has done, from what its calls have done.
 -- Assumes nothing.
 use mathlib.Core.Path.{_≡_, refl, sym, ap, _∙_, subst}
-use mathlib.Core.Bool.{Bool, true, false, cond}
-use mathlib.Core.List.{List, [], _∷_, _++_, append-nil}
-use Prim.Native.Nat.{ℕ, _+_, _-_, _*_, _/_, _%_, _<_, _≤_}
+use mathlib.Core.Bool.{true, false}
+use mathlib.Core.List.{List, [], _∷_, append-nil}
+use Prim.Native.Nat.{ℕ, _+_, _-_, _*_, _/_, _≤_}
 use native.Mathlib.Nat.{le-refl}
 use native.Mathlib.Omega.{arith}
 use lib.ListN.{length, take, replicate, length-replicate}
 use lib.Seq.{sets}
 use Rattle.token.specs.Code as Code
 use Rattle.lexer.specs.Indentation.{step, indentationAt}
-use Rattle.lexer.specs.Scan.{Scan, scanned, refused, prepend, mark, lexer, Rest, indentThen, closed}
+use Rattle.lexer.specs.Scan.{scanned, mark, lexer, Rest, indentThen, closed}
 use Rattle.lexer.specs.Words.{words}
-use Rattle.lexer.specs.Steps.{Paid, Left, filled, left, Marks, Turns}
+use Rattle.lexer.specs.Steps.{Paid, Marks, Turns}
 use Rattle.lexer.specs.declared.Lexer.{Lexer}
 use Rattle.lexer.specs.declared.Marked.the-variants as M
 use Rattle.lexer.specs.declared.Turn.the-variants as T

@@ -16,7 +16,7 @@ use Rattle.literal.specs.Literal.{lexInteger, lexFloat, lexString, unquoted}
 use Rattle.literal.specs.declared.Literal.{Literal}
 use Rattle.literal.specs.declared.Literal.the-variants as L
 use Rattle.literal.specs.declared.Lexed.{Lexed}
-use Rattle.literal.specs.declared.Lexed.the-variants.{Value, Refused}
+use Rattle.literal.specs.declared.Lexed.the-variants.{Value}
 use Rattle.lexer.specs.Value.{valueOf, textOf}
 use Rattle.lexer.specs.Steps.{takenOf}
 use Rattle.lexer.specs.declared.value.Taken.{Taken}

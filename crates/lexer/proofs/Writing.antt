@@ -3,14 +3,13 @@
 use mathlib.Core.Path.{_≡_, refl, sym, ap, _∙_}
 use mathlib.Core.List.{List, [], _∷_, _++_, append-assoc}
 use Prim.Native.Nat.{ℕ, zero, suc, _+_, _-_, _*_, _<_, _≤_}
-use native.Mathlib.Numerals.{add-one, add-two, add-three}
 use native.Mathlib.Omega.{arith}
-use lib.ListN.{length, set, take, drop, replicate, length-append, length-replicate}
+use lib.ListN.{length, take, drop, replicate, length-append}
 use lib.Seq.{sets, sets-eq, length-take-le, take-at}
 use Rattle.tokens.specs.Token.{Token}
 use Rattle.lexer.specs.Scan.{Scan, scanned, refused, prepend, mark}
 use Rattle.lexer.specs.Words.{words}
-use Rattle.lexer.specs.Steps.{Left, filled, none, left}
+use Rattle.lexer.specs.Steps.{left}
 
 pub length-words : (ts : List Token) → length (words ts) ≡ 3 * length ts
 length-words [] = refl

@@ -4,7 +4,7 @@ use Prim.Native.Nat.{ℕ, _+_, _-_, _*_, _/_, _%_, _<_, _≤_}
 use mathlib.Core.Path.{_≡_}
 use mathlib.Core.List.{List, [], _++_}
 use lib.ListN.{length, take, replicate}
-use Rattle.areas.specs.Area.{area, tokenArea}
+use Rattle.areas.specs.Area.{tokenArea}
 use Rattle.literal.specs.declared.Lexed.{Lexed}
 use Rattle.literal.specs.declared.Lexed.the-variants.{Value, Refused}
 use Rattle.lexer.specs.Indentation.{step}

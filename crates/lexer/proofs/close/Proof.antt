@@ -2,7 +2,6 @@
 -- Assumes nothing.
 use borrow.Author.Needs.{needs}
 use native.Mathlib.Omega.{arith}
-use mathlib.Core.Path.{_≡_}
 use denote.Ref.{now}
 use Rattle.lexer.proofs.Turning.{all-closed}
 use Rattle.lexer.proofs.close.Statement.{statement}

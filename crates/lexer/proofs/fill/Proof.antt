@@ -2,7 +2,7 @@
 -- Assumes nothing.
 use borrow.Author.Needs.{needs}
 use native.Mathlib.Omega.{arith}
-use mathlib.Core.Path.{_≡_, _∙_}
+use mathlib.Core.Path.{_∙_}
 use denote.Ref.{now}
 use Rattle.lexer.proofs.Running.{fills-tokens, fills-none, ran-within, told-runs}
 use Rattle.lexer.proofs.fill.Statement.{statement}

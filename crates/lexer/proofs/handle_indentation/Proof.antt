@@ -3,7 +3,7 @@
 use borrow.Author.Needs.{needs}
 use borrow.Author.Tests.{not-true, not-false}
 use native.Mathlib.Omega.{arith}
-use mathlib.Core.Path.{_≡_, sym, _∙_}
+use mathlib.Core.Path.{sym, _∙_}
 use denote.Ref.{now}
 use Rattle.lexer.proofs.Turning.{flag-clear, level-room, on-blank, on-level, on-no}
 use Rattle.lexer.proofs.handle_indentation.Statement.{statement}

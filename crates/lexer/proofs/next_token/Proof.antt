@@ -1,8 +1,7 @@
 -- `lexer::next_token` meets its contract: at the end the levels close, and else the byte and the token at the place behind the gap decide.
 -- Assumes nothing.
 use borrow.Author.Needs.{needs}
-use native.Mathlib.Omega.{arith}
-use mathlib.Core.Path.{_≡_, refl, sym, ap, _∙_}
+use mathlib.Core.Path.{sym, ap, _∙_}
 use Prim.Native.Nat.{ℕ}
 use denote.Ref.{now}
 use Rattle.raw_token.specs.declared.RawToken.the-variants.{Found, NoMatch}

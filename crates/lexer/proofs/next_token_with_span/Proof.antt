@@ -1,8 +1,7 @@
 -- `lexer::next_token_with_span` meets its contract: the spaces that count, and then a token.
 -- Assumes nothing.
 use borrow.Author.Needs.{needs}
-use native.Mathlib.Omega.{arith}
-use mathlib.Core.Path.{_≡_, sym, _∙_}
+use mathlib.Core.Path.{_∙_}
 use denote.Ref.{now}
 use Rattle.lexer.proofs.Finding.{marked-on, then-token, then-no}
 use Rattle.lexer.proofs.next_token_with_span.Statement.{statement}

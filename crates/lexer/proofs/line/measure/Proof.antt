@@ -1,7 +1,7 @@
 -- `lexer::line::measure` meets its contract: the byte behind the spaces decides.
 -- Assumes nothing.
 use borrow.Author.Needs.{needs}
-use mathlib.Core.Path.{_≡_, sym, ap, _∙_}
+use mathlib.Core.Path.{ap}
 use denote.Ref.{now}
 use Rattle.lexer.proofs.Levels.{measure-tab, measure-blank, measure-level}
 use Rattle.lexer.specs.Indentation.{isBlankLine}
