@@ -17,7 +17,12 @@ pub fn begins_f(symbol: u32) -> bool
     ensures { λ r. ⌜ r ≡ mem symbol firstF ⌝ }
 {
     match symbol {
-        token::NONE..=token::FLOAT => true,
+        token::NONE => true,
+        token::BOOL => true,
+        token::INT => true,
+        token::STRING => true,
+        token::IDENTIFIER => true,
+        token::FLOAT => true,
         token::LPAREN => true,
         token::LBRACKET => true,
         token::LBRACE => true,
@@ -32,7 +37,14 @@ pub fn begins_u(symbol: u32) -> bool
 {
     match symbol {
         token::NOT => true,
-        token::NONE..=token::MINUS => true,
+        token::PLUS => true,
+        token::MINUS => true,
+        token::NONE => true,
+        token::BOOL => true,
+        token::INT => true,
+        token::STRING => true,
+        token::IDENTIFIER => true,
+        token::FLOAT => true,
         token::LPAREN => true,
         token::LBRACKET => true,
         token::LBRACE => true,
@@ -46,8 +58,16 @@ pub fn begins_e(symbol: u32) -> bool
     ensures { λ r. ⌜ r ≡ mem symbol firstE ⌝ }
 {
     match symbol {
+        token::LAMBDA => true,
         token::NOT => true,
-        token::LAMBDA..=token::MINUS => true,
+        token::PLUS => true,
+        token::MINUS => true,
+        token::NONE => true,
+        token::BOOL => true,
+        token::INT => true,
+        token::STRING => true,
+        token::IDENTIFIER => true,
+        token::FLOAT => true,
         token::LPAREN => true,
         token::LBRACKET => true,
         token::LBRACE => true,
@@ -56,6 +76,7 @@ pub fn begins_e(symbol: u32) -> bool
     }
 }
 
+// A name, which may be `t`.
 pub fn is_name(symbol: u32) -> bool
     ensures { λ r. ⌜ r ≡ mem symbol names ⌝ }
 {
@@ -91,7 +112,10 @@ pub fn is_multiply(symbol: u32) -> bool
     ensures { λ r. ⌜ r ≡ mem symbol (Star ∷ SlashSlash ∷ Slash ∷ Percent ∷ []) ⌝ }
 {
     match symbol {
-        token::STAR..=token::PERCENT => true,
+        token::STAR => true,
+        token::SLASH_SLASH => true,
+        token::SLASH => true,
+        token::PERCENT => true,
         _ => false,
     }
 }
@@ -100,7 +124,12 @@ pub fn is_comparison(symbol: u32) -> bool
     ensures { λ r. ⌜ r ≡ mem symbol comparisons ⌝ }
 {
     match symbol {
-        token::EQUAL_EQUAL..=token::GREATER_EQUAL => true,
+        token::LESS => true,
+        token::LESS_EQUAL => true,
+        token::GREATER => true,
+        token::GREATER_EQUAL => true,
+        token::EQUAL_EQUAL => true,
+        token::NOT_EQUAL => true,
         _ => false,
     }
 }
