@@ -4,6 +4,7 @@ use borrow.Author.Needs.{needs}
 use mathlib.Core.Path.{_≡_, ap, sym, _∙_}
 use Prim.Native.Nat.{ℕ, _+_}
 use native.Mathlib.Omega.{arith}
+use lib.ListN.{getD}
 use Rattle.leaves.specs.Tokens.{tokenOf}
 use Rattle.leaves.proofs.Symbols.{is-tee, not-t, not-short, not-name}
 use Rattle.leaves.proofs.read.symbol_at.Statement.{statement}
@@ -42,8 +43,9 @@ returns c =
     let at-code-at = at-if1 .before in
     let a = sym (at-code-at .code-at .ensures) ∙ at-if1 .if1 .taken in
     let s = at-start-at .start-at .ensures in
+    let x = at-code-at .before .before .before .args in
     let b = sym (at-end-at .end-at .ensures) ∙ at-if2 .if2 .taken ∙ ap (λ (x : ℕ). x + 1) s in
-    sym (is-tee _ _ a b (rw s at (sym (at-byte .byte .ensures) ∙ c .if3 .taken)))
+    sym (is-tee (x .src .now) (tokenOf (x .src .now) (x .toks .now) (x .at .0)) a b (ap (λ (i : ℕ). getD (x .src .now) i 0) (sym s) ∙ sym (at-byte .byte .ensures) ∙ c .if3 .taken))
 
 returns-2 : tie.Need-returns-2
 returns-2 c =
@@ -53,7 +55,8 @@ returns-2 c =
     let at-code-at = at-start-at .before .before in
     let s = at-start-at .start-at .ensures in
     let b = at-byte .byte .ensures in
-    at-code-at .code-at .ensures ∙ sym (not-t _ (tokenOf _ _ _) (λ e. c .if3 .left (b ∙ rw (← s) at e)))
+    let x = at-code-at .before .before .before .args in
+    at-code-at .code-at .ensures ∙ sym (not-t (x .src .now) (tokenOf (x .src .now) (x .toks .now) (x .at .0)) (λ e. c .if3 .left (b ∙ ap (λ (i : ℕ). getD (x .src .now) i 0) s ∙ e)))
 
 returns-3 : tie.Need-returns-3
 returns-3 c =
@@ -62,13 +65,15 @@ returns-3 c =
     let at-code-at = at-start-at .before .before in
     let s = at-start-at .start-at .ensures in
     let b = at-end-at .end-at .ensures in
-    at-code-at .code-at .ensures ∙ sym (not-short _ (tokenOf _ _ _) (λ e. c .if2 .left (b ∙ e ∙ ap (λ (x : ℕ). x + 1) (sym s))))
+    let x = at-code-at .before .before .before .args in
+    at-code-at .code-at .ensures ∙ sym (not-short (x .src .now) (tokenOf (x .src .now) (x .toks .now) (x .at .0)) (λ e. c .if2 .left (b ∙ e ∙ ap (λ (x : ℕ). x + 1) (sym s))))
 
 returns-4 : tie.Need-returns-4
 returns-4 c =
     let at-code-at = c .before in
     let e = at-code-at .code-at .ensures in
-    e ∙ sym (not-name _ (tokenOf _ _ _) (λ h. c .if1 .left (e ∙ h)))
+    let x = at-code-at .before .before .before .args in
+    e ∙ sym (not-name (x .src .now) (tokenOf (x .src .now) (x .toks .now) (x .at .0)) (λ h. c .if1 .left (e ∙ h)))
 
 pub symbol-at-spec : {M : Type 1} → statement M
 symbol-at-spec =
