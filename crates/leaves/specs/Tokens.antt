@@ -45,7 +45,7 @@ unfoldable pub tokensOf : List ℕ → List ℕ → List Token
 tokensOf src toks = tabulate (tokenOf src toks) 0 (eofAt toks + 1)
 
 -- what the rules ask of token t
-abbrev pub symbolAt : List ℕ → List ℕ → ℕ → ℕ
+unfoldable pub symbolAt : List ℕ → List ℕ → ℕ → ℕ
 symbolAt src toks t = symbol src (tokenOf src toks t)
 
 -- a token's span lies in the source, and a String has two quotes

@@ -5,7 +5,7 @@ use mathlib.Core.Path.{_≡_, ap, sym, _∙_}
 use Prim.Native.Nat.{ℕ, _+_}
 use native.Mathlib.Omega.{arith}
 use lib.ListN.{getD}
-use Rattle.leaves.specs.Tokens.{tokenOf}
+use Rattle.leaves.specs.Tokens.{tokenOf, symbolAt}
 use Rattle.leaves.proofs.Symbols.{is-tee, not-t, not-short, not-name}
 use Rattle.leaves.proofs.read.symbol_at.Statement.{statement}
 use Rattle.leaves.proofs.read.symbol_at.Tie as tie
@@ -34,6 +34,7 @@ byte-requires : tie.Need-byte-requires
 byte-requires c κs = tt
 
 returns : tie.Need-returns
+unfolding symbolAt
 returns c =
     let at-byte = c .before in
     let at-if2 = at-byte .before in
@@ -48,6 +49,7 @@ returns c =
     sym (is-tee (x .src .now) (tokenOf (x .src .now) (x .toks .now) (x .at .0)) a b (ap (λ (i : ℕ). getD (x .src .now) i 0) (sym s) ∙ sym (at-byte .byte .ensures) ∙ c .if3 .taken))
 
 returns-2 : tie.Need-returns-2
+unfolding symbolAt
 returns-2 c =
     let at-byte = c .before in
     let at-end-at = at-byte .before .before .before in
@@ -59,6 +61,7 @@ returns-2 c =
     at-code-at .code-at .ensures ∙ sym (not-t (x .src .now) (tokenOf (x .src .now) (x .toks .now) (x .at .0)) (λ e. c .if3 .left (b ∙ ap (λ (i : ℕ). getD (x .src .now) i 0) s ∙ e)))
 
 returns-3 : tie.Need-returns-3
+unfolding symbolAt
 returns-3 c =
     let at-end-at = c .before .before in
     let at-start-at = at-end-at .before in
@@ -69,6 +72,7 @@ returns-3 c =
     at-code-at .code-at .ensures ∙ sym (not-short (x .src .now) (tokenOf (x .src .now) (x .toks .now) (x .at .0)) (λ e. c .if2 .left (b ∙ e ∙ ap (λ (x : ℕ). x + 1) (sym s))))
 
 returns-4 : tie.Need-returns-4
+unfolding symbolAt
 returns-4 c =
     let at-code-at = c .before in
     let e = at-code-at .code-at .ensures in
