@@ -1,3 +1,5 @@
 pub mod Tests
 pub mod Symbols
 pub mod Tokens
+pub mod Acts
+pub mod SignRuns

@@ -1,8 +1,16 @@
 // The leaves of the tree reader (src/parser/mod.rs): its state and answers, what it asks of a token, and the writing of nodes.
 // Their contracts speak of the machine of the grammar's actions: specs/Contract.antt.
+mod chain;
+mod list;
 mod read;
 mod sets;
+mod signs;
+mod write;
 
+pub use chain::put_and;
+pub use chain::put_binary;
+pub use list::link;
+pub use list::widen;
 pub use read::code_at;
 pub use read::end_at;
 pub use read::start_at;
@@ -17,8 +25,19 @@ pub use sets::is_multiply;
 pub use sets::is_name;
 pub use sets::is_sign;
 pub use sets::is_symbol;
+pub use signs::skip_signs;
+pub use signs::wrap;
 use token::NodeNumber;
 use token::TokenNumber;
+pub use write::put_apply;
+pub use write::put_attribute;
+pub use write::put_empty;
+pub use write::put_enclosed;
+pub use write::put_index;
+pub use write::put_lambda;
+pub use write::put_named;
+pub use write::put_pair;
+pub use write::put_tuple;
 
 // The code that stands for the name `t` (specs/Symbol.antt of the grammar).
 pub const TEE: u32 = 50;
