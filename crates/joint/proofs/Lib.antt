@@ -1,1 +1,4 @@
 pub mod Chain
+pub mod Bounds
+pub mod Ends
+pub mod Loops

@@ -132,9 +132,9 @@ pub record Led (src toks : List ℕ) (room : ℕ) (p : Part Action Rule) (ins : 
   pub kept : s .nodes ≤ s′ .nodes
   pub spare : s′ .nodes + 2 * s .at .0 ≤ s .nodes + 2 * s′ .at .0
   pub last : ℕ
-  pub same : {out : ℕ → Value} (q : Part Action Rule) (vs ws : List Value) {a : Parsed} {t : List ℕ} → Comes src toks room q out vs (growing (n .0) last ∷ ws) s′ tr′ a t → Comes src toks room (p ⨾ q) out vs (ins ++ ws) s tr a t
+  pub same : (out : ℕ → Value) (q : Part Action Rule) (vs ws : List Value) {a : Parsed} {t : List ℕ} → Comes src toks room q out vs (growing (n .0) last ∷ ws) s′ tr′ a t → Comes src toks room (p ⨾ q) out vs (ins ++ ws) s tr a t
 
 -- Code that reads the rest p of a list, whatever follows it.
 pub record Lists (src toks : List ℕ) (room : ℕ) (p : Part Action Rule) (ins : List Value) (s : State) (tr : List ℕ) (r : Parsed) (tr′ : List ℕ) : Type 0 where
   pub leads : (n : NodeNumber) (s′ : State) → r ≡ Node n s′ → Led src toks room p ins s tr n s′ tr′
-  pub stops : {out : ℕ → Value} (k : ℕ) (s′ : State) → r ≡ Refused k s′ → (q : Part Action Rule) (vs ws : List Value) → Comes src toks room (p ⨾ q) out vs (ins ++ ws) s tr (Refused k s′) tr′
+  pub stops : (out : ℕ → Value) (k : ℕ) (s′ : State) → r ≡ Refused k s′ → (q : Part Action Rule) (vs ws : List Value) → Comes src toks room (p ⨾ q) out vs (ins ++ ws) s tr (Refused k s′) tr′
