@@ -6,9 +6,12 @@ use Prim.Native.Nat.{ℕ, _+_, _*_, _-_, _≤_, _<_}
 use native.Mathlib.Omega.{arith}
 use lib.ListN.{length, getD, drop}
 use Rattle.token.specs.Code as code
+use Rattle.literal.specs.declared.Literal.{Literal}
 use Rattle.tokens.specs.Token.{Token}
 use Rattle.ast.specs.Kind as kind
 use Rattle.ast.specs.Node.{Node, none, made, spanned, blank}
+use Rattle.ast.specs.declared.Leaf.{Leaf}
+use Rattle.ast.specs.Literal.{leafOf, literalNode}
 use Rattle.ast.specs.Operator.{unaryOp, binaryOp}
 use Rattle.ast.specs.Words.{nodeAt, nodesOf, putNode, setSpan, setNext}
 use Rattle.ast.proofs.Nodes.{length-nodes, node-there, nodes-put, nodes-span, nodes-next}
@@ -16,8 +19,8 @@ use Rattle.pyhyeon.specs.Machine.{Value, token, node, growing, list, Kept, numb
 use Rattle.pyhyeon.specs.Action.{Action, named, binary, enclose, empty, group, tuple, pair, attribute, apply, index, lambda, list-join, tokenAt, perform}
 use Rattle.leaves.specs.declared.State.{State}
 use Rattle.leaves.specs.declared.Added.{Added}
-use Rattle.leaves.specs.Tokens.{codeAt, startAt, endAt, tokenOf, tokensOf}
-use Rattle.leaves.specs.Contract.{added, kept, Spot, Writes, Changes, Joins, Signed}
+use Rattle.leaves.specs.Tokens.{codeAt, startAt, endAt, textBefore, tokenOf, tokensOf}
+use Rattle.leaves.specs.Contract.{added, kept, Spot, Writes, Literals, Changes, Joins, Signed}
 use Rattle.leaves.specs.Put.{Put}
 use Rattle.leaves.proofs.Tokens.{token-is}
 
@@ -139,6 +142,23 @@ group-changed {toks} {tr} {tr′} {s} {o} {n} here e d₁ d₂ g h src = record 
       ap (λ (x : Token). change n (spanned (x .start) (tokenAt src (tokensOf src toks) (s .at .0 - 1) .end)) k) (token-is src toks o (omega arith))
       ∙ ap (λ (x : Token). change n (spanned (startAt toks o) (x .end)) k) (token-is src toks (s .at .0 - 1) (omega arith))
       ∙ rw (e, d₁, d₂, nodes-span tr (s .nodes) n (startAt toks o) (endAt toks (s .at .0 - 1)) h (omega arith));
+}
+
+pub leaf-node : (x y : ℕ) {f : Leaf} {l m : Literal} → f ≡ leafOf l → l ≡ m → made (f .kind) x y (f .p) (f .q) 0 0 ≡ literalNode x y m
+leaf-node x y e d = ap (λ (f : Leaf). made (f .kind) x y (f .p) (f .q) 0 0) (e ∙ ap leafOf d)
+
+-- the node of a literal, where its text is counted first
+pub literal-wrote : {src toks tr tr′ : List ℕ} {s : State} {a : Added} {u : ℕ} {n : Node} → Spot toks tr s → Put (record { at = s .at; nodes = s .nodes; opened = s .opened; used = u }) tr n a tr′
+    → u ≡ textBefore src toks (s .at .0) → n ≡ literalNode (startAt toks (s .at .0 - 1)) (endAt toks (s .at .0 - 1)) (tokenOf src toks (s .at .0 - 1) .literal) → Literals src toks s tr a tr′
+unfolding perform
+literal-wrote {src} {toks} {tr} {tr′} {s} {a} {u} {n} here w e d = record {
+  node = w .node;
+  after = rw e at (w .after);
+  same = λ vs.
+      let l = here .last in
+      ap (λ (t : Token). write 0 (literalNode (t .start) (t .end) (t .literal)) (kept s tr vs)) (token-is src toks (s .at .0 - 1) (omega arith))
+      ∙ ap (λ (x : Node). write 0 x (kept s tr vs)) (sym d)
+      ∙ rw (w .words, nodes-put tr (s .nodes) n (here .word), length-nodes tr (s .nodes));
 }
 
 -- two lists that were linked

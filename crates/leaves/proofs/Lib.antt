@@ -3,3 +3,4 @@ pub mod Symbols
 pub mod Tokens
 pub mod Acts
 pub mod SignRuns
+pub mod Apt

@@ -1,4 +1,4 @@
--- For contracts of the leaves alone: a node that was put behind the others, and a run of signs.
+-- For contracts of the leaves alone: a node that was put behind the others, the text of a literal, and a run of signs.
 -- Assumes nothing.
 use Prim.Native.Nat.{ℕ, _+_, _≤_, _<_}
 use mathlib.Core.Path.{_≡_}
@@ -6,6 +6,8 @@ use mathlib.Core.Bool.{true, false}
 use mathlib.Core.List.{List, [], _∷_}
 use Rattle.grammar.specs.Sets.{mem}
 use Rattle.token.specs.Code.{Not, Minus, Plus}
+use Rattle.literal.specs.declared.Literal.{Literal}
+use Rattle.literal.specs.declared.Literal.the-variants as L
 use Rattle.ast.specs.Node.{Node}
 use Rattle.ast.specs.Words.{putNode}
 use Rattle.leaves.specs.Tokens.{eofAt, symbolAt}
@@ -18,6 +20,14 @@ pub record Put (s : State) (tr : List ℕ) (n : Node) (r : Added) (tr′ : List 
   pub node : r .0 .0 ≡ s .nodes
   pub after : r .1 ≡ added s
   pub words : tr′ ≡ putNode tr (s .nodes) n
+
+-- how many bytes a literal has in the text
+abbrev pub textLength : Literal → ℕ
+textLength (L.Bool b) = 0
+textLength (L.Int z) = 0
+textLength (L.String at len) = len
+textLength (L.Float x) = 0
+textLength L.None = 0
 
 -- the tokens from t on, up to `end`, are signs, and that one is none
 pub record Signs (src toks : List ℕ) (t end : ℕ) : Type 0 where

@@ -2,6 +2,7 @@
 // Their contracts speak of the machine of the grammar's actions: specs/Contract.antt.
 mod chain;
 mod list;
+mod literal_node;
 mod read;
 mod sets;
 mod signs;
@@ -11,6 +12,7 @@ pub use chain::put_and;
 pub use chain::put_binary;
 pub use list::link;
 pub use list::widen;
+pub use literal_node::put_literal;
 pub use read::code_at;
 pub use read::end_at;
 pub use read::start_at;
