@@ -2,3 +2,4 @@ pub mod Chain
 pub mod Bounds
 pub mod Ends
 pub mod Loops
+pub mod Passing
