@@ -1,12 +1,10 @@
 -- The signs of U, passed one by one.
 -- Assumes nothing.
-use mathlib.Core.Path.{_≡_, refl, ap, sym, _∙_}
-use mathlib.Core.Bool.{true, false}
+use mathlib.Core.Path.{_≡_, refl, ap, _∙_}
 use mathlib.Core.List.{List, [], _∷_}
-use Prim.Native.Nat.{ℕ, zero, suc, _+_, _-_, _≤_, _<_}
+use Prim.Native.Nat.{ℕ, zero, suc, _+_, _-_, _≤_}
 use native.Mathlib.Omega.{arith}
 use lib.Dec.{T}
-use Rattle.grammar.specs.Sets.{mem}
 use Rattle.grammar.specs.Grammar.{Part, act, tok, many, _⨾_}
 use Rattle.grammar.specs.Descent.{null, begins}
 use Rattle.grammar.specs.Check.{low, takes}
@@ -20,7 +18,7 @@ use Rattle.leaves.specs.declared.Parsed.{Parsed}
 use Rattle.leaves.specs.Tokens.{eofAt, textBefore, Tokens}
 use Rattle.leaves.specs.Contract.{Comes}
 use Rattle.leaves.specs.Put.{Signs}
-use Rattle.leaves.proofs.Tokens.{Took, took}
+use Rattle.leaves.proofs.Tokens.{took}
 use Rattle.joint.proofs.Chain.{tok-then, act-then, many-on, many-end}
 
 abbrev pub sign : Part Action Rule

@@ -1,6 +1,6 @@
 -- What the leaves do to the words of the tree is what the machine's actions do to its nodes.
 -- Assumes nothing.
-use mathlib.Core.Path.{_≡_, refl, ap, sym, _∙_}
+use mathlib.Core.Path.{_≡_, ap, sym, _∙_}
 use mathlib.Core.List.{List, [], _∷_, _++_}
 use Prim.Native.Nat.{ℕ, _+_, _*_, _-_, _≤_, _<_}
 use native.Mathlib.Omega.{arith}
@@ -15,7 +15,7 @@ use Rattle.ast.specs.Literal.{leafOf, literalNode}
 use Rattle.ast.specs.Operator.{unaryOp, binaryOp}
 use Rattle.ast.specs.Words.{nodeAt, nodesOf, putNode, setSpan, setNext}
 use Rattle.ast.proofs.Nodes.{length-nodes, node-there, nodes-put, nodes-span, nodes-next}
-use Rattle.pyhyeon.specs.Machine.{Value, token, node, growing, list, Kept, number, last, both, write, change}
+use Rattle.pyhyeon.specs.Machine.{Value, token, node, growing, list, number, last, both, write, change}
 use Rattle.pyhyeon.specs.Action.{Action, named, binary, enclose, empty, group, tuple, pair, attribute, apply, index, lambda, list-join, tokenAt, perform}
 use Rattle.leaves.specs.declared.State.{State}
 use Rattle.leaves.specs.declared.Added.{Added}
