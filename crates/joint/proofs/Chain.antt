@@ -186,6 +186,17 @@ module _ {src toks : List ℕ} {room : ℕ} {out : ℕ → Value} {vs : List Val
   unfolding walk seqD thenD
   part-then {ws = ws} r e c = record { told = rw (is-node (r .comes ws .told) e) (c .told) }
 
+  -- a part that is written as one, by its own parts
+  pub flat : {p q : Part Action Rule} {s : State} {tr : List ℕ} {ws : List Value} → Comes src toks room (p ⨟ q) out vs ws s tr a t → Comes src toks room (p ⨾ q) out vs ws s tr a t
+  unfolding walk seqD
+  flat {p} {q} {s} {tr} {ws} c = record { told = rw (regroup src toks room p q (s .opened) (state src toks s tr ws)) at (c .told) }
+
+  -- a part that code of its own reads, at the head of a longer one
+  pub flat-then : {p q : Part Action Rule} {ins : List Value} {s s₁ : State} {tr tr₁ : List ℕ} {ws : List Value} {b : Parsed} {n : NodeNumber} {mid : ℕ → Value} → Parts src toks room p ins mid s tr b tr₁ → b ≡ Node n s₁ →
+      Comes src toks room q out vs (mid (n .0) ∷ ws) s₁ tr₁ a t → Comes src toks room (p ⨟ q) out vs (ins ++ ws) s tr a t
+  unfolding thenD
+  flat-then {p} {q} {ins} {s} {tr = tr} {ws = ws} r e c = record { told = rw (regroup src toks room p q (s .opened) (state src toks s tr (ins ++ ws)), is-node (r .comes ws .told) e) (c .told) }
+
   -- an alternative, by its first token; what follows the choice follows each of them
   pub alt-first : {p p′ q : Part Action Rule} {s : State} {tr : List ℕ} {ws : List Value} → s .at .0 ≤ eofAt toks → mem (symbolAt src toks (s .at .0)) (begins first p) ≡ true →
       Comes src toks room (p ⨟ q) out vs ws s tr a t → Comes src toks room ((p ∕ p′) ⨾ q) out vs ws s tr a t
@@ -290,6 +301,11 @@ module _ {src toks : List ℕ} {room : ℕ} {out : ℕ → Value} {vs : List Val
       Comes src toks room (p ⨾ q) out vs (ins ++ ws) s tr (Refused k s₁) tr₁
   unfolding walk seqD
   part-stop {q = q} ws r e = record { told = stop (on src toks room q) (r .comes ws .told) e }
+
+module _ {src toks : List ℕ} {room : ℕ} {out : ℕ → Value} {vs : List Value} where
+  pub flat-stop : {p : Part Action Rule} {ins : List Value} {s s₁ : State} {tr tr₁ : List ℕ} {b : Parsed} {k : ℕ} {mid : ℕ → Value} (q : Part Action Rule) (ws : List Value) → Parts src toks room p ins mid s tr b tr₁ → b ≡ Refused k s₁ →
+      Comes src toks room (p ⨟ q) out vs (ins ++ ws) s tr (Refused k s₁) tr₁
+  flat-stop {p} {ins} {s} {tr = tr} q ws r e = record { told = rw (regroup src toks room p q (s .opened) (state src toks s tr (ins ++ ws))) (stop (on src toks room q) (r .comes ws .told) e) }
 
 -- a call of a rule
 module _ {src toks : List ℕ} {room : ℕ} {r : Rule} {s : State} {tr : List ℕ} where

@@ -14,7 +14,13 @@ use Rattle.pyhyeon.specs.Rules.{Rule, more}
 use Rattle.leaves.specs.declared.State.{State}
 use Rattle.leaves.specs.declared.Parsed.{Parsed}
 use Rattle.leaves.specs.declared.Parsed.the-variants.{Node, Refused}
+use Rattle.leaves.specs.Tokens.{eofAt, textBefore, Tokens}
 use Rattle.leaves.specs.Contract.{Comes, Ready, Led, Lists}
+
+-- what code needs at a state, of the numbers that are left to show
+pub ready-of : {src toks tr : List ℕ} {s : State} {extra : ℕ} → Tokens src toks →
+    (16 * eofAt toks + 16 ≤ length tr) × (s .at .0 ≤ eofAt toks) × (s .nodes ≤ 2 * s .at .0) × (s .opened ≤ 10 * s .at .0 + extra) × (s .used ≡ textBefore src toks (s .at .0)) → Ready src toks tr s extra
+ready-of w p = record { tokens = w; room = p .0; here = p .1; nodes = p .2; opened = p .3; used = p .4 }
 
 -- from s₀ with the values v₀ at hand a loop that reads the part p has come to s with the values v; the node n is among those that are written
 pub record Going (src toks : List ℕ) (extra room : ℕ) (p : Part Action Rule) (v₀ : List Value) (s₀ : State) (tr₀ : List ℕ) (v : List Value) (n : ℕ) (s : State) (tr : List ℕ) : Type 0 where

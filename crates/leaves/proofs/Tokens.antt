@@ -57,7 +57,7 @@ module _ (src toks : List ℕ) where
 
 -- a token of a set without Eof and String was seen: it is not the last one, and adds no text
 pub record Took (src toks : List ℕ) (t : ℕ) : Type 0 where
-  pub inside : t < eofAt toks
+  pub inside : t + 1 ≤ eofAt toks
   pub text : textBefore src toks (t + 1) ≡ textBefore src toks t
 
 not-string : (src toks : List ℕ) (t : ℕ) (set : List ℕ) → mem String set ≡ false → mem (symbolAt src toks t) set ≡ true → codeAt toks t ≡ String → ⊥
@@ -76,4 +76,4 @@ module _ {src toks : List ℕ} {t : ℕ} (set : List ℕ) where
       rw (w .ends) at (seen-within Eof t set (symbols src (tokensOf src toks)) (rw f tt) l (rw seen tt))
 
   pub took : mem Eof set ≡ false → mem String set ≡ false → Tokens src toks → t ≤ eofAt toks → mem (symbolAt src toks t) set ≡ true → Took src toks t
-  took f g w h e = record { inside = before-eof f w h e; text = quiet src toks t (not-string src toks t set g e) }
+  took f g w h e = record { inside = omega (arith, before-eof f w h e); text = quiet src toks t (not-string src toks t set g e) }
