@@ -26,6 +26,21 @@ none = 4294967295
 abbrev pub words : Node → List ℕ
 words n = n .kind ∷ n .start ∷ n .end ∷ n .next ∷ n .p ∷ n .q ∷ n .r ∷ n .s ∷ []
 
+-- a new node: it is in no list yet
+abbrev pub made : ℕ → ℕ → ℕ → ℕ → ℕ → ℕ → ℕ → Node
+made kind start end p q r s = record { kind = kind; start = start; end = end; next = none; p = p; q = q; r = r; s = s }
+
+-- the same node with the member that follows it; and with another span
+abbrev pub linked : ℕ → Node → Node
+linked m n = record { kind = n .kind; start = n .start; end = n .end; next = m; p = n .p; q = n .q; r = n .r; s = n .s }
+
+abbrev pub spanned : ℕ → ℕ → Node → Node
+spanned a b n = record { kind = n .kind; start = a; end = b; next = n .next; p = n .p; q = n .q; r = n .r; s = n .s }
+
+-- what is read where there is no node
+abbrev pub blank : Node
+blank = record { kind = 0; start = 0; end = 0; next = 0; p = 0; q = 0; r = 0; s = 0 }
+
 -- What a field holds: nothing, and so 0; a number that is no node's (a place, an operator, a word of a literal); a node; a node or none;
 -- a list, which "is its first node or none, then next".
 pub data Field : Type 0 where

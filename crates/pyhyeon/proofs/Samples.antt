@@ -15,9 +15,8 @@ use Rattle.grammar.specs.Trial.{andThen, orElse, orStay, seqP, altP, loop, many
 use Rattle.grammar.specs.Descent.{null, begins, thenD, sameD, seqD, byD, loopD, tailD, manyD, listD, walk, enter, ruleD, descend}
 use Rattle.tokens.specs.Token.{Token}
 use Rattle.ast.specs.Kind as kind
-use Rattle.ast.specs.Node.{Node, none}
+use Rattle.ast.specs.Node.{Node, none, made, linked}
 use Rattle.pyhyeon.specs.Symbol.{symbols}
-use Rattle.pyhyeon.specs.Machine.{made, linked}
 use Rattle.pyhyeon.specs.Action.{perform}
 use Rattle.pyhyeon.specs.Rules.{plain}
 use Rattle.pyhyeon.specs.Tables.{joined, first, opens}

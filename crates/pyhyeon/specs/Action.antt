@@ -2,20 +2,17 @@
 -- so a node ends where the token ends that was taken last, and starts where its first token does, or its first part.
 -- Assumes nothing.
 use Prim.Native.Nat.{ℕ, zero, suc, _+_}
-use mathlib.Core.Bool.{cond}
 use mathlib.Core.List.{List}
 use lib.ListN.{length, getD, drop}
-use lib.Ieee.{binary64, toBits}
 use Rattle.grammar.specs.Trial.{Machine}
 use Rattle.token.specs.Code as token
-use Rattle.literal.specs.declared.Literal.{Literal}
 use Rattle.literal.specs.declared.Literal.the-variants as L
-use Rattle.numbers.specs.Bits.{halvesOf, twosComplement}
 use Rattle.tokens.specs.Token.{Token}
 use Rattle.ast.specs.Kind as kind
-use Rattle.ast.specs.Node.{Node, none}
+use Rattle.ast.specs.Node.{Node, none, made, linked, spanned}
+use Rattle.ast.specs.Literal.{literalNode}
 use Rattle.ast.specs.Operator.{unaryOp, binaryOp}
-use Rattle.pyhyeon.specs.Machine.{Value, node, signs, growing, list, chain, Kept, number, count, last, operand, one, both, whole, top, taken, put, write, nth, change, made, linked, spanned}
+use Rattle.pyhyeon.specs.Machine.{Value, node, signs, growing, list, chain, Kept, number, count, last, operand, one, both, whole, top, taken, put, write, nth, change}
 use Rattle.pyhyeon.specs.Machine as value
 
 -- The values that an action takes are named first, the one that came last to hand last. All but `mark` and those on lists and signs write a node,
@@ -56,15 +53,6 @@ pub data Action : Type 0 where
   define : ℕ → Action  -- token, token, list, list: Def or Method, with keyword, name, names, body
   class : Action  -- token, token, list
   program : Action  -- list
-
--- a literal's node: "18 Bool (p 1 for True, else 0), 19 Int and 21 Float (p low, q high half of the 64 bits), 20 String (p offset, q length in
--- the text), 22 None"
-abbrev pub literalNode : ℕ → ℕ → Literal → Node
-literalNode s e (L.Bool b) = made kind.Bool s e (cond b 1 0) 0 0 0
-literalNode s e (L.Int z) = made kind.Int s e (halvesOf (twosComplement z) .low) (halvesOf (twosComplement z) .high) 0 0
-literalNode s e (L.String at len) = made kind.String s e at len 0 0
-literalNode s e (L.Float x) = made kind.Float s e (halvesOf (toBits binary64 x) .low) (halvesOf (toBits binary64 x) .high) 0 0
-literalNode s e L.None = made kind.None s e 0 0 0 0
 
 module _ (source : List ℕ) (toks : List Token) where
   abbrev pub tokenAt : ℕ → Token

@@ -4,7 +4,8 @@
 use Prim.Native.Nat.{ℕ, _+_, _-_}
 use mathlib.Core.List.{List, [], _∷_, _++_}
 use lib.ListN.{length, getD, set, drop}
-use Rattle.ast.specs.Node.{Node, none}
+use Rattle.ast.specs.Node.{Node}
+use Rattle.ast.specs.Node as ast
 
 -- A value at hand, by numbers of tokens and of nodes.
 pub data Value : Type 0 where
@@ -101,19 +102,8 @@ write i n k = record { at = k .at; nodes = k .nodes ++ (n ∷ []); values = node
 
 -- a node that is there, by its number
 abbrev pub nth : ℕ → Kept → Node
-nth i k = getD (k .nodes) i (record { kind = 0; start = 0; end = 0; next = 0; p = 0; q = 0; r = 0; s = 0 })
+nth i k = getD (k .nodes) i ast.blank
 
 -- the nodes with that of number i changed
 abbrev pub change : ℕ → (Node → Node) → Kept → Kept
 change i f k = record { at = k .at; nodes = set (k .nodes) i (f (nth i k)); values = k .values }
-
--- a new node: it is in no list yet
-abbrev pub made : ℕ → ℕ → ℕ → ℕ → ℕ → ℕ → ℕ → Node
-made kind start end p q r s = record { kind = kind; start = start; end = end; next = none; p = p; q = q; r = r; s = s }
-
--- the same node with the member that follows it; and with another span
-abbrev pub linked : ℕ → Node → Node
-linked m n = record { kind = n .kind; start = n .start; end = n .end; next = m; p = n .p; q = n .q; r = n .r; s = n .s }
-
-abbrev pub spanned : ℕ → ℕ → Node → Node
-spanned a b n = record { kind = n .kind; start = a; end = b; next = n .next; p = n .p; q = n .q; r = n .r; s = n .s }

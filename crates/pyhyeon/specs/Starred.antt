@@ -11,8 +11,7 @@ use Rattle.token.specs.Code.{If, Not, Identifier, Int, EqualEqual, Less, LParen
 use Rattle.tokens.specs.Token.{Token}
 use Rattle.lexer.specs.Scan.{scanned, refused, tokenList}
 use Rattle.ast.specs.Kind as kind
-use Rattle.ast.specs.Node.{Node, none, words, allFit}
-use Rattle.pyhyeon.specs.Machine.{made}
+use Rattle.ast.specs.Node.{Node, none, made, words, allFit}
 use Rattle.pyhyeon.specs.Reading.{Work, Descended, Accepted, TooDeep, Misfit, Tried, Fits, Fails, workOf, descent, trial}
 
 -- a token that is no literal, from one place up to another; an Int

@@ -1,0 +1,4 @@
+pub mod Operators
+pub mod Fields
+pub mod Tabulate
+pub mod Nodes

@@ -1,0 +1,5 @@
+pub mod Chain
+pub mod Bounds
+pub mod Ends
+pub mod Loops
+pub mod Passing

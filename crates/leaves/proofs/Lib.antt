@@ -1,0 +1,6 @@
+pub mod Tests
+pub mod Symbols
+pub mod Tokens
+pub mod Acts
+pub mod SignRuns
+pub mod Apt

@@ -1,0 +1,23 @@
+-- What a test of the code tells of the token's symbol.
+-- Assumes nothing.
+use mathlib.Core.Path.{_≡_, refl, ap, sym, _∙_}
+use mathlib.Core.Bool.{Bool, true, false, _||_}
+use mathlib.Core.List.{List, [], _∷_}
+use Prim.Native.Nat.{ℕ}
+use borrow.Author.Tests.{ne-eqb}
+use Rattle.grammar.specs.Sets.{mem}
+
+pub or-none : (b : Bool) → (b || false) ≡ b
+or-none true = refl
+or-none false = refl
+
+-- what the test returned, what its contract says of that, and which symbol it was given
+pub learnt : (set : List ℕ) {b r : Bool} {k c : ℕ} → r ≡ b → r ≡ mem k set → k ≡ c → mem c set ≡ b
+learnt set p q e = ap (λ (x : ℕ). mem x set) (sym e) ∙ sym q ∙ p
+
+-- what a `match` on the symbol k tells of the token's symbol c: it is the number m; it is not the first of a set
+pub coded : (set : List ℕ) (m : ℕ) {k c : ℕ} {b : Bool} → k ≡ c → k ≡ m → mem m set ≡ b → mem c set ≡ b
+coded set m e h f = ap (λ (x : ℕ). mem x set) (sym e ∙ h) ∙ f
+
+pub not-first : (n : ℕ) (set : List ℕ) {k c : ℕ} → k ≡ c → (k ≡ n → ⊥) → mem c (n ∷ set) ≡ mem c set
+not-first n set {c = c} e f = simp (ne-eqb c n (λ h. f (e ∙ h)))

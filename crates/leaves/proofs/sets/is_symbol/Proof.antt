@@ -1,0 +1,12 @@
+-- `leaves::is_symbol` meets its contract: the set has one code.
+-- Assumes nothing.
+use mathlib.Core.Path.{sym}
+use Rattle.leaves.proofs.Tests.{or-none}
+use Rattle.leaves.proofs.sets.is_symbol.Statement.{statement}
+use Rattle.leaves.proofs.sets.is_symbol.Tie as tie
+
+returns : tie.Need-returns
+returns c = sym (or-none _)
+
+pub is-symbol-spec : {M : Type 1} → statement M
+is-symbol-spec = tie.close (tie.spec returns)
