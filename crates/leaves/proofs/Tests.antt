@@ -35,8 +35,8 @@ without n set c e f = go (eqb c n) e f
 -- a symbol of two sets together that is not of the second is of the first
 pub of-first : (a b : List ℕ) (c : ℕ) → mem c b ≡ false → mem c (a ++ b) ≡ true → mem c a ≡ true
 of-first [] b c e f = let z : true ≡ false = sym f ∙ e in let x : _≡_ {A = ℕ} 0 1 = cc in absurd (omega arith)
-of-first (y ∷ a) b c e f = go (eqb c y) f
+of-first (y ∷ a) b c e f = go (eqb c y) f (of-first a b c e)
   where
-    go : (x : Bool) → (x || mem c (a ++ b)) ≡ true → (x || mem c a) ≡ true
-    go true f = refl
-    go false f = of-first a b c e f
+    go : (x : Bool) → (x || mem c (a ++ b)) ≡ true → (mem c (a ++ b) ≡ true → mem c a ≡ true) → (x || mem c a) ≡ true
+    go true f g = refl
+    go false f g = g f
