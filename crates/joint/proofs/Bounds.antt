@@ -35,7 +35,7 @@ use Rattle.leaves.specs.declared.Parsed.{Parsed}
 use Rattle.leaves.specs.declared.Parsed.the-variants.{Node, Refused}
 use Rattle.leaves.specs.Tokens.{eofAt, textBefore, tokensOf, symbolAt, Tokens}
 use Rattle.leaves.specs.Contract.{state, Told, Rules, Comes, Parts}
-use Rattle.leaves.proofs.Tokens.{sees-at}
+use Rattle.leaves.proofs.Tokens.{sees-at, before-eof}
 use Rattle.joint.proofs.Chain.{is-node, is-used}
 
 -- from a rule at s, with so many more rules to open on its token, to the node n and the state s′
@@ -80,6 +80,16 @@ module _ (src toks : List ℕ) (w : Tokens src toks) where
       Rules src toks room r s tr a tr′ → a ≡ Node n s′ → Grown src toks (rank r + 1) s n s′
   after-rule {r} {room} {s} {tr} p h reads e = after r room s tr p h (reads .told []) e
 
+  -- a call that gave a node was made on a token that can begin the rule
+  pub after-call : {r : Rule} {room : ℕ} {s : State} {tr : List ℕ} {a : Parsed} {tr′ : List ℕ} {n : NodeNumber} {s′ : State} → Spares r → mem Eof (first r) ≡ false → s .at .0 ≤ eofAt toks →
+      Parts src toks room (call r) [] node s tr a tr′ → a ≡ Node n s′ → Grown src toks (rank r + 1) s n s′
+  unfolding walk byD state
+  after-call {r} {room} {s} {tr} {a} {tr′} {n} {s′} p out h reads e = go (mem (symbolAt src toks (s .at .0)) (first r)) refl
+    where
+      go : (b : Bool) → mem (symbolAt src toks (s .at .0)) (first r) ≡ b → Grown src toks (rank r + 1) s n s′
+      go true m = after r room s tr p (before-eof (first r) out w h m) (rw (sees-at src toks (first r) (s .at .0) h ∙ m) at (reads .comes [] .told)) e
+      go false m = let x = is-node (rw (sees-at src toks (first r) (s .at .0) h ∙ m) at (reads .comes [] .told)) e in let z : _≡_ {A = ℕ} 0 1 = cc in absurd (omega arith)
+
 -- the rules of expressions do
 module _ where
   pub spares-e : Spares E
@@ -114,11 +124,12 @@ module _ where
   unfolding least gives needs
   spares-f = spares refl refl refl
 
--- The test of a part that begins with a token: it opens no rule on that one, and spares a node.
-pub record Bounded (p : Part Action Rule) : Type 0 where
+-- The test of a part that is read on a token before the end: it opens no more rules than `high` on that one, and spares a node.
+pub record Bounded (high : ℕ) (p : Part Action Rule) : Type 0 where
+  pub few : T (leb high 10)
   pub some : T (ltb 0 (takes least p))
   pub tidy : T (clean pyhyeon Eof p)
-  pub lower : T (low pyhyeon 10 0 p)
+  pub lower : T (low pyhyeon 10 high p)
   pub pays : T (afford prices 0 p)
   pub spared : T (leb 1 (credit prices 0 p))
 
@@ -138,15 +149,15 @@ pub record Went (src toks : List ℕ) (s s′ : State) : Type 0 where
   pub used : s′ .used ≡ textBefore src toks (s′ .at .0)
 
 module _ (src toks : List ℕ) (w : Tokens src toks) where
-  after-from : (ins : List Value) {p : Part Action Rule} {room : ℕ} {s : State} {tr : List ℕ} {a : Parsed} {tr′ : List ℕ} {n : NodeNumber} {s′ : State} → Bounded p → s .at .0 < eofAt toks → owed ins ≡ 0 →
-      Held (length (nodesOf tr (s .nodes))) ins → Comes src toks room p node [] ins s tr a tr′ → a ≡ Node n s′ → Grown src toks 0 s n s′
+  after-from : (ins : List Value) {high : ℕ} {p : Part Action Rule} {room : ℕ} {s : State} {tr : List ℕ} {a : Parsed} {tr′ : List ℕ} {n : NodeNumber} {s′ : State} → Bounded high p → s .at .0 < eofAt toks → owed ins ≡ 0 →
+      Held (length (nodesOf tr (s .nodes))) ins → Comes src toks room p node [] ins s tr a tr′ → a ≡ Node n s′ → Grown src toks high s n s′
   unfolding state meter counted owed count Held Fit
-  after-from ins {p = p} {room = room} {s = s} {tr = tr} {tr′ = tr′} {n = n} {s′ = s′} t h none all reads e =
+  after-from ins {high = high} {p = p} {room = room} {s = s} {tr = tr} {tr′ = tr′} {n = n} {s′ = s′} t h none all reads e =
       let st = state src toks s tr ins in
       let x : walk first (descend pyhyeon room) p (s .opened) st ≡ done (s′ .opened) (state src toks s′ tr′ (node (n .0) ∷ [])) = is-node (reads .told) e in
       let b = left src toks w (s .at .0) (omega arith) in
       let some = ltb→lt 0 (takes least p) (t .some) in
-      let c = at-done (walk-counts pyhyeon prices frugal (meter src (tokensOf src toks)) room p 0 0 (s .opened) st (t .tidy) (t .lower) (t .pays) (on-token (omega arith) some (omega arith))) x in
+      let c = at-done (walk-counts pyhyeon prices frugal (meter src (tokensOf src toks)) room p high 0 (s .opened) st (t .tidy) (t .lower) (t .pays) (on-token (leb→le high 10 (t .few)) some (omega arith))) x in
       let d = at-done (walk-along (keeps src (tokensOf src toks)) pyhyeon room p (s .opened) st) x in
       let held = d .held all in
       let spared = leb→le 1 (credit prices 0 p) (t .spared) in
@@ -160,13 +171,13 @@ module _ (src toks : List ℕ) (w : Tokens src toks) where
         used = is-used (reads .told) e;
       }
 
-  pub after-part : {p : Part Action Rule} {room : ℕ} {s : State} {tr : List ℕ} {a : Parsed} {tr′ : List ℕ} {n : NodeNumber} {s′ : State} (m : ℕ) → Bounded p → s .at .0 < eofAt toks → m < s .nodes →
-      Parts src toks room p (node m ∷ []) node s tr a tr′ → a ≡ Node n s′ → Grown src toks 0 s n s′
+  pub after-part : {high : ℕ} {p : Part Action Rule} {room : ℕ} {s : State} {tr : List ℕ} {a : Parsed} {tr′ : List ℕ} {n : NodeNumber} {s′ : State} (m : ℕ) → Bounded high p → s .at .0 < eofAt toks → m < s .nodes →
+      Parts src toks room p (node m ∷ []) node s tr a tr′ → a ≡ Node n s′ → Grown src toks high s n s′
   unfolding owed count Held Fit
   after-part {s = s} {tr = tr} m b h l reads e = let k = length-nodes tr (s .nodes) in after-from (node m ∷ []) b h refl (omega arith, tt) (reads .comes []) e
 
-  pub after-start : {p : Part Action Rule} {room : ℕ} {s : State} {tr : List ℕ} {a : Parsed} {tr′ : List ℕ} {n : NodeNumber} {s′ : State} → Bounded p → s .at .0 < eofAt toks →
-      Parts src toks room p [] node s tr a tr′ → a ≡ Node n s′ → Grown src toks 0 s n s′
+  pub after-start : {high : ℕ} {p : Part Action Rule} {room : ℕ} {s : State} {tr : List ℕ} {a : Parsed} {tr′ : List ℕ} {n : NodeNumber} {s′ : State} → Bounded high p → s .at .0 < eofAt toks →
+      Parts src toks room p [] node s tr a tr′ → a ≡ Node n s′ → Grown src toks high s n s′
   unfolding owed Held
   after-start b h reads e = after-from [] b h refl tt (reads .comes []) e
 
@@ -198,3 +209,15 @@ module _ (src toks : List ℕ) (w : Tokens src toks) where
       Parts src toks room p (node m ∷ []) list s tr a tr′ → a ≡ Node n s′ → Went src toks s s′
   unfolding owed count
   after-rest m t h reads e = went (node m ∷ []) t h refl refl (reads .comes []) e
+
+  -- a part that takes a node and gives one
+  pub after-node : {p : Part Action Rule} {room : ℕ} {s : State} {tr : List ℕ} {a : Parsed} {tr′ : List ℕ} {n : NodeNumber} {s′ : State} (m : ℕ) → Modest p → s .at .0 ≤ eofAt toks → m < s .nodes →
+      Parts src toks room p (node m ∷ []) node s tr a tr′ → a ≡ Node n s′ → Went src toks s s′ × (n .0 < s′ .nodes)
+  unfolding owed count Held Fit state
+  after-node {p} {room} {s} {tr} {a} {tr′} {n} {s′} m t h l reads e =
+      let st = state src toks s tr (node m ∷ []) in
+      let x : walk first (descend pyhyeon room) p (s .opened) st ≡ done (s′ .opened) (state src toks s′ tr′ (node (n .0) ∷ [])) = is-node (reads .comes [] .told) e in
+      let d = at-done (walk-along (keeps src (tokensOf src toks)) pyhyeon room p (s .opened) st) x in
+      let k = length-nodes tr (s .nodes) in
+      let held = d .held (omega arith, tt) in
+      (went (node m ∷ []) t h refl refl (reads .comes []) e, omega (arith, held .0, length-nodes tr′ (s′ .nodes)))

@@ -76,6 +76,13 @@ module _ {src toks : List ℕ} {room : ℕ} {out : ℕ → Value} {vs ws : List 
       let d : s .at .0 + 1 - 1 ≡ s .at .0 = omega arith in
       tok-then h e (act-then (rw d refl) refl refl c)
 
+  -- a token that was taken before is put at hand
+  pub mark-at : {i : ℕ} → s .at .0 ≡ i + 1 → Comes src toks room q out vs (token i ∷ ws) s tr a t → Comes src toks room (act mark ⨾ q) out vs ws s tr a t
+  unfolding perform
+  mark-at {i} e c =
+      let d : s .at .0 - 1 ≡ i = omega arith in
+      act-then (rw d refl) refl refl c
+
   -- the actions that only change values at hand
   pub signs-then : Comes src toks room q out vs (signs (s .at .0) 0 ∷ ws) s tr a t → Comes src toks room (act signs-none ⨾ q) out vs ws s tr a t
   unfolding perform

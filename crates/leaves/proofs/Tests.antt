@@ -2,8 +2,10 @@
 -- Assumes nothing.
 use mathlib.Core.Path.{_≡_, refl, ap, sym, _∙_}
 use mathlib.Core.Bool.{Bool, true, false, _||_}
-use mathlib.Core.List.{List, [], _∷_}
+use mathlib.Core.List.{List, [], _∷_, _++_}
 use Prim.Native.Nat.{ℕ}
+use native.Mathlib.Omega.{arith}
+use lib.Dec.{eqb}
 use borrow.Author.Tests.{ne-eqb}
 use Rattle.grammar.specs.Sets.{mem}
 
@@ -21,3 +23,20 @@ coded set m e h f = ap (λ (x : ℕ). mem x set) (sym e ∙ h) ∙ f
 
 pub not-first : (n : ℕ) (set : List ℕ) {k c : ℕ} → k ≡ c → (k ≡ n → ⊥) → mem c (n ∷ set) ≡ mem c set
 not-first n set {c = c} e f = simp (ne-eqb c n (λ h. f (e ∙ h)))
+
+-- a symbol of a set that is not the set's first is of the others
+pub without : (n : ℕ) (set : List ℕ) (c : ℕ) {b : Bool} → mem c (n ∷ []) ≡ false → mem c (n ∷ set) ≡ b → mem c set ≡ b
+without n set c e f = go (eqb c n) e f
+  where
+    go : {b : Bool} (x : Bool) → (x || false) ≡ false → (x || mem c set) ≡ b → mem c set ≡ b
+    go false e f = f
+    go true e f = let z : _≡_ {A = ℕ} 0 1 = cc in absurd (omega arith)
+
+-- a symbol of two sets together that is not of the second is of the first
+pub of-first : (a b : List ℕ) (c : ℕ) → mem c b ≡ false → mem c (a ++ b) ≡ true → mem c a ≡ true
+of-first [] b c e f = let z : true ≡ false = sym f ∙ e in let x : _≡_ {A = ℕ} 0 1 = cc in absurd (omega arith)
+of-first (y ∷ a) b c e f = go (eqb c y) f (of-first a b c e)
+  where
+    go : (x : Bool) → (x || mem c (a ++ b)) ≡ true → (mem c (a ++ b) ≡ true → mem c a ≡ true) → (x || mem c a) ≡ true
+    go true f g = refl
+    go false f g = g f

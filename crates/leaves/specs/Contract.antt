@@ -131,6 +131,7 @@ pub record Led (src toks : List ℕ) (room : ℕ) (p : Part Action Rule) (ins : 
   pub on : s .at .0 ≤ s′ .at .0
   pub kept : s .nodes ≤ s′ .nodes
   pub spare : s′ .nodes + 2 * s .at .0 ≤ s .nodes + 2 * s′ .at .0
+  pub there : n .0 < s′ .nodes
   pub last : ℕ
   pub same : (out : ℕ → Value) (q : Part Action Rule) (vs ws : List Value) {a : Parsed} {t : List ℕ} → Comes src toks room q out vs (growing (n .0) last ∷ ws) s′ tr′ a t → Comes src toks room (p ⨾ q) out vs (ins ++ ws) s tr a t
 

@@ -1,0 +1,75 @@
+-- What is repeated takes a token, and the parts that functions have for themselves pass the tests of their bounds.
+-- Assumes nothing.
+use mathlib.Core.List.{[], _∷_}
+use lib.Dec.{T}
+use Rattle.grammar.specs.Grammar.{many}
+use Rattle.grammar.specs.Check.{low, takes}
+use Rattle.grammar.specs.Limits.{clean, credit, afford}
+use Rattle.token.specs.Code.{Or, And, Plus, Minus, Star, SlashSlash, Slash, Percent, Eof}
+use Rattle.pyhyeon.specs.Rules.{A, C, P, U, list, more, entry, postfix, parameters, rest}
+use Rattle.pyhyeon.specs.Tables.{least, rank, first, primary, pyhyeon}
+use Rattle.pyhyeon.specs.Prices.{writes, needs, gives, prices}
+use Rattle.joint.proofs.Bounds.{Bounded, Modest}
+use Rattle.expr.specs.Parts.{term, further, others, name, valued}
+use Rattle.grammar.specs.Grammar.{call}
+use Rattle.pyhyeon.specs.Rules.{E}
+
+pub low-o : T (low pyhyeon 100 100 (many (term A (Or ∷ []))))
+unfolding low takes least rank
+low-o = tt
+
+pub low-a : T (low pyhyeon 100 100 (many (term C (And ∷ []))))
+unfolding low takes least rank
+low-a = tt
+
+pub low-s : T (low pyhyeon 100 100 (many (term P (Plus ∷ Minus ∷ []))))
+unfolding low takes least rank
+low-s = tt
+
+pub low-p : T (low pyhyeon 100 100 (many (term U (Star ∷ SlashSlash ∷ Slash ∷ Percent ∷ []))))
+unfolding low takes least rank
+low-p = tt
+
+pub low-further : T (low pyhyeon 100 100 (many further))
+unfolding low takes least rank
+low-further = tt
+
+pub low-postfix : T (low pyhyeon 100 100 (many postfix))
+unfolding low takes least rank
+low-postfix = tt
+
+pub low-others : T (low pyhyeon 100 100 (more (call E)))
+unfolding low takes least rank
+low-others = tt
+
+pub low-entries : T (low pyhyeon 100 100 (more entry))
+unfolding low takes least rank
+low-entries = tt
+
+pub low-names : T (low pyhyeon 100 100 (more name))
+unfolding low takes least rank
+low-names = tt
+
+pub bounded-primary : Bounded 0 primary
+unfolding takes clean low afford credit first least rank writes needs gives
+bounded-primary = record { few = tt; some = tt; tidy = tt; lower = tt; pays = tt; spared = tt }
+
+pub bounded-postfix : Bounded 0 postfix
+unfolding takes clean low afford credit first least rank writes needs gives
+bounded-postfix = record { few = tt; some = tt; tidy = tt; lower = tt; pays = tt; spared = tt }
+
+pub modest-list : Modest list
+unfolding clean low takes afford credit first least rank writes needs gives
+modest-list = record { tidy = tt; lower = tt; pays = tt }
+
+pub modest-parameters : Modest parameters
+unfolding clean low takes afford credit first least rank writes needs gives
+modest-parameters = record { tidy = tt; lower = tt; pays = tt }
+
+pub bounded-entry : Bounded 8 entry
+unfolding takes clean low afford credit first least rank writes needs gives
+bounded-entry = record { few = tt; some = tt; tidy = tt; lower = tt; pays = tt; spared = tt }
+
+pub modest-valued : Modest valued
+unfolding clean low takes afford credit first least rank writes needs gives
+modest-valued = record { tidy = tt; lower = tt; pays = tt }

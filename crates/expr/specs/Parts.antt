@@ -1,0 +1,79 @@
+-- Parts of the rules that a function has for itself. Only contracts cite these: each is a part of a rule's body (specs/Tables.antt of the grammar).
+-- Assumes nothing.
+use Prim.Native.Nat.{ℕ}
+use mathlib.Core.List.{List, [], _∷_}
+use Rattle.grammar.specs.Grammar.{Part, skip, act, tok, call, _⨾_, _∕_, many, tail}
+use Rattle.token.specs.Code.{Not, Plus, Minus, LBrace, RBrace, RParen, RBracket, Colon, Comma}
+use Rattle.ast.specs.Kind as kind
+use Rattle.pyhyeon.specs.Action.{Action, mark, named, signs-more, binary, compare, compare-more, compared, list-one, list-join, list-done, enclose, empty, group, tuple, pair, apply, index, lambda}
+use Rattle.pyhyeon.specs.Rules.{Rule, E, S, tk, names, more, list, parameters, entry, rest, comparisons}
+
+-- an operator and its right operand, of the level r
+abbrev pub term : Rule → List ℕ → Part Action Rule
+term r ops = tok ops ⨾ act mark ⨾ call r ⨾ act binary
+
+-- a further comparison; and all of them, after the first operator
+abbrev pub further : Part Action Rule
+further = tok comparisons ⨾ act mark ⨾ call S ⨾ act compare-more
+
+abbrev pub chained : Part Action Rule
+chained = many further ⨾ act compared
+
+abbrev pub compares : Part Action Rule
+compares = call S ⨾ act compare ⨾ chained
+
+abbrev pub sign : Part Action Rule
+sign = tok (Not ∷ Minus ∷ Plus ∷ []) ⨾ act signs-more
+
+-- the rest of a list of expressions, of names, of pairs
+abbrev pub others : Part Action Rule
+others = tail Comma (more (call E))
+
+abbrev pub name : Part Action Rule
+name = tok names ⨾ act (named kind.Name)
+
+abbrev pub entries : Part Action Rule
+entries = tail Comma (more entry)
+
+-- a list's closing bracket; a list and its closing bracket
+abbrev pub closes : ℕ → ℕ → Part Action Rule
+closes close kind = tk close ⨾ act (enclose kind)
+
+abbrev pub enclosed : ℕ → ℕ → Part Action Rule
+enclosed close kind = list ⨾ closes close kind
+
+-- after `lambda`; after its colon
+abbrev pub lambdaOn : Part Action Rule
+lambdaOn = parameters ⨾ tk Colon ⨾ call E ⨾ act lambda
+
+abbrev pub lambdaBody : Part Action Rule
+lambdaBody = call E ⨾ act lambda
+
+-- after the name `t`
+abbrev pub teeOn : Part Action Rule
+teeOn = act mark ⨾ tk LBrace ⨾ enclosed RBrace kind.TreeSet ∕ act (named kind.Variable)
+
+-- the value of a pair; after the first pair's colon
+abbrev pub valued : Part Action Rule
+valued = call E ⨾ act pair
+
+abbrev pub pairsRest : Part Action Rule
+pairsRest = call E ⨾ act pair ⨾ act list-one ⨾ entries ⨾ act list-done ⨾ closes RBrace kind.Dict
+
+-- after the first E in parentheses; after the comma behind it
+abbrev pub tupleRest : Part Action Rule
+tupleRest = rest ⨾ closes RParen kind.Tuple
+
+abbrev pub roundOn : Part Action Rule
+roundOn = tk RParen ⨾ act group ∕ tk Comma ⨾ tupleRest
+
+-- after the `(` of a call; after the `[` of an index
+abbrev pub callOn : Part Action Rule
+callOn = list ⨾ tk RParen ⨾ act apply
+
+abbrev pub indexOn : Part Action Rule
+indexOn = call E ⨾ tk RBracket ⨾ act index
+
+-- after the first comma of t
+abbrev pub tOn : Part Action Rule
+tOn = act list-one ⨾ more (call E) ⨾ others ⨾ act tuple ∕ skip

@@ -1,0 +1,1409 @@
+// The expressions of the language (src/parser/mod.rs): the rules E, O, A, C, S, P, U and F, each one function that takes the running count of openings,
+// raises it by one before it reads a token, and hands it on in every answer. The other functions read parts of rules: lists, names, pairs, braces,
+// parentheses, postfix parts and t, and open nothing.
+//
+// The contract of a rule is `Rules`: its answer, and the nodes in the tree, are what the descent of the rule comes to. That of a function that has a
+// part of a rule is `Parts`, with the values that are at hand, which are its parameters; `Lists` for the rest of a list.
+ghost use mathlib.Core.Path.{_≡_};
+ghost use mathlib.Core.Bool.{true, false};
+ghost use mathlib.Core.List.{List, [], _∷_};
+ghost use Prim.Native.Nat.{ℕ, _+_, _*_, _-_, _≤_, _<_};
+ghost use lib.ListN.{length};
+ghost use Rattle.grammar.specs.Sets.{mem};
+ghost use Rattle.grammar.specs.Grammar.{call, many, tail, act, tok, skip, _⨾_, _∕_};
+ghost use Rattle.token.specs.Code.{Or, And, Plus, Minus, Star, SlashSlash, Slash, Percent, Comma, Eof, String, Dot, LParen, RParen, LBracket};
+ghost use Rattle.pyhyeon.specs.Machine.{token, node, growing, list, chain};
+ghost use Rattle.pyhyeon.specs.Rules.{E, O, C, S, P, U, F, parameters, entry, more, postfix};
+ghost use Rattle.pyhyeon.specs.Rules as rules;
+ghost use Rattle.pyhyeon.specs.Tables.{primary, pairsOn, setOn, tJoined};
+ghost use Rattle.pyhyeon.specs.Tables as tables;
+ghost use Rattle.leaves.specs.Tokens.{eofAt, symbolAt, textBefore, Tokens};
+ghost use Rattle.leaves.specs.declared.Parsed.the-variants as parsed;
+ghost use Rattle.leaves.specs.Contract.{Rules, Parts, Lists, Ready, Begun};
+ghost use Rattle.ast.specs.Kind as kind;
+ghost use Rattle.pyhyeon.specs.Action.{empty, list-done};
+ghost use Rattle.expr.specs.Parts.{term, chained, compares, others, name, entries, closes, enclosed, lambdaOn, lambdaBody, teeOn, valued, pairsRest, tupleRest, roundOn, callOn, indexOn, tOn};
+use leaves::Added;
+use leaves::Parsed;
+use leaves::State;
+use token::NodeNumber;
+use token::TokenNumber;
+
+// E: lambda names : E, or O. Room is asked for before the opening counts.
+pub fn rule_e(src: &[u8], toks: &[u32], tree: &mut [u32], left: u32, s: State) -> Parsed
+    requires { ⌜ Ready (now src) (now toks) (now tree) s 3 ⌝ }
+    requires { ⌜ Begun (now src) (now toks) s E ⌝ }
+    ensures { λ r. ⌜ Rules (now (src .entry)) (now (toks .entry)) left E s (now (tree .entry)) r (now (tree .exit)) ⌝ }
+{
+    let at = s.at;
+    if left == 0 {
+        Parsed::Refused(13, s)
+    } else {
+        let room = left - 1;
+        let opened = s.opened + 1;
+        if leaves::is_symbol(leaves::symbol_at(src, toks, at), token::LAMBDA) {
+            let t = at.0 + 1;
+            let on = State {
+                at: TokenNumber(t),
+                nodes: s.nodes,
+                opened: opened,
+                used: s.used,
+            };
+            lambda(src, toks, tree, room, at, on)
+        } else {
+            let up = State {
+                at: at,
+                nodes: s.nodes,
+                opened: opened,
+                used: s.used,
+            };
+            rule_o(src, toks, tree, room, up)
+        }
+    }
+}
+
+// An E, if the token there can begin one.
+pub fn enter(src: &[u8], toks: &[u32], tree: &mut [u32], left: u32, s: State) -> Parsed
+    requires { ⌜ Ready (now src) (now toks) (now tree) s 3 ⌝ }
+    ensures { λ r. ⌜ Parts (now (src .entry)) (now (toks .entry)) left (call E) [] node s (now (tree .entry)) r (now (tree .exit)) ⌝ }
+{
+    let at = s.at;
+    if leaves::begins_e(leaves::symbol_at(src, toks, at)) {
+        rule_e(src, toks, tree, left, s)
+    } else {
+        Parsed::Refused(14, s)
+    }
+}
+
+// After `lambda`, the token `opener`.
+fn lambda(
+    src: &[u8],
+    toks: &[u32],
+    tree: &mut [u32],
+    left: u32,
+    opener: TokenNumber,
+    s: State,
+) -> Parsed
+    requires { ⌜ Ready (now src) (now toks) (now tree) s 1 ⌝ }
+    requires { ⌜ opener .0 < s .at .0 ⌝ }
+    ensures { λ r. ⌜ Parts (now (src .entry)) (now (toks .entry)) left lambdaOn (token (opener .0) ∷ []) node s (now (tree .entry)) r (now (tree .exit)) ⌝ }
+{
+    let heads = names(src, toks, tree, s);
+    let first = heads.0;
+    let after = heads.1;
+    let colon = after.at;
+    if leaves::is_symbol(leaves::symbol_at(src, toks, colon), token::COLON) {
+        let t = colon.0 + 1;
+        let on = State {
+            at: TokenNumber(t),
+            nodes: after.nodes,
+            opened: after.opened,
+            used: after.used,
+        };
+        body(src, toks, tree, left, opener, first, on)
+    } else {
+        Parsed::Refused(14, after)
+    }
+}
+
+// After the colon of a lambda with the names from `first` on.
+fn body(
+    src: &[u8],
+    toks: &[u32],
+    tree: &mut [u32],
+    left: u32,
+    opener: TokenNumber,
+    first: NodeNumber,
+    s: State,
+) -> Parsed
+    requires { ⌜ Ready (now src) (now toks) (now tree) s 1 ⌝ }
+    requires { ⌜ opener .0 < s .at .0 ⌝ }
+    ensures { λ r. ⌜ Parts (now (src .entry)) (now (toks .entry)) left lambdaBody (list (first .0) ∷ token (opener .0) ∷ []) node s (now (tree .entry)) r (now (tree .exit)) ⌝ }
+{
+    let inner = enter(src, toks, tree, left, s);
+    match inner {
+        Parsed::Node(n, after) => {
+            let made = leaves::put_lambda(toks, tree, opener, first, n, after);
+            let m = made.0;
+            let done = made.1;
+            Parsed::Node(m, done)
+        }
+        Parsed::Refused(code, after) => Parsed::Refused(code, after),
+    }
+}
+
+// O: A by `or`.
+fn rule_o(src: &[u8], toks: &[u32], tree: &mut [u32], left: u32, s: State) -> Parsed
+    requires { ⌜ Ready (now src) (now toks) (now tree) s 4 ⌝ }
+    requires { ⌜ Begun (now src) (now toks) s O ⌝ }
+    ensures { λ r. ⌜ Rules (now (src .entry)) (now (toks .entry)) left O s (now (tree .entry)) r (now (tree .exit)) ⌝ }
+{
+    let at = s.at;
+    let opened = s.opened + 1;
+    let up = State {
+        at: at,
+        nodes: s.nodes,
+        opened: opened,
+        used: s.used,
+    };
+    let inner = rule_a(src, toks, tree, left, up);
+    match inner {
+        Parsed::Node(n, after) => more_o(src, toks, tree, left, n, after),
+        Parsed::Refused(code, after) => Parsed::Refused(code, after),
+    }
+}
+
+fn more_o(
+    src: &[u8],
+    toks: &[u32],
+    tree: &mut [u32],
+    left: u32,
+    first: NodeNumber,
+    s: State,
+) -> Parsed
+    requires { ⌜ Ready (now src) (now toks) (now tree) s 1 ⌝ }
+    requires { ⌜ first .0 < s .nodes ⌝ }
+    ensures { λ r. ⌜ Parts (now (src .entry)) (now (toks .entry)) left (many (term rules.A (Or ∷ []))) (node (first .0) ∷ []) node s (now (tree .entry)) r (now (tree .exit)) ⌝ }
+{
+    let mut l = first;
+    let mut st = s;
+    loop {
+        let op = st.at;
+        if leaves::is_symbol(leaves::symbol_at(src, toks, op), token::OR) {
+            let t = op.0 + 1;
+            let next = TokenNumber(t);
+            let on = State {
+                at: next,
+                nodes: st.nodes,
+                opened: st.opened,
+                used: st.used,
+            };
+            if leaves::begins_u(leaves::symbol_at(src, toks, next)) {
+                let right = rule_a(src, toks, tree, left, on);
+                match right {
+                    Parsed::Node(r, after) => {
+                        let made = leaves::put_binary(toks, tree, op, l, r, after);
+                        l = made.0;
+                        st = made.1;
+                    }
+                    Parsed::Refused(code, after) => return Parsed::Refused(code, after),
+                }
+            } else {
+                return Parsed::Refused(14, on);
+            }
+        } else {
+            return Parsed::Node(l, st);
+        }
+    }
+}
+
+// A: C by `and`.
+fn rule_a(src: &[u8], toks: &[u32], tree: &mut [u32], left: u32, s: State) -> Parsed
+    requires { ⌜ Ready (now src) (now toks) (now tree) s 5 ⌝ }
+    requires { ⌜ Begun (now src) (now toks) s rules.A ⌝ }
+    ensures { λ r. ⌜ Rules (now (src .entry)) (now (toks .entry)) left rules.A s (now (tree .entry)) r (now (tree .exit)) ⌝ }
+{
+    let at = s.at;
+    let opened = s.opened + 1;
+    let up = State {
+        at: at,
+        nodes: s.nodes,
+        opened: opened,
+        used: s.used,
+    };
+    let inner = rule_c(src, toks, tree, left, up);
+    match inner {
+        Parsed::Node(n, after) => more_a(src, toks, tree, left, n, after),
+        Parsed::Refused(code, after) => Parsed::Refused(code, after),
+    }
+}
+
+fn more_a(
+    src: &[u8],
+    toks: &[u32],
+    tree: &mut [u32],
+    left: u32,
+    first: NodeNumber,
+    s: State,
+) -> Parsed
+    requires { ⌜ Ready (now src) (now toks) (now tree) s 1 ⌝ }
+    requires { ⌜ first .0 < s .nodes ⌝ }
+    ensures { λ r. ⌜ Parts (now (src .entry)) (now (toks .entry)) left (many (term C (And ∷ []))) (node (first .0) ∷ []) node s (now (tree .entry)) r (now (tree .exit)) ⌝ }
+{
+    let mut l = first;
+    let mut st = s;
+    loop {
+        let op = st.at;
+        if leaves::is_symbol(leaves::symbol_at(src, toks, op), token::AND) {
+            let t = op.0 + 1;
+            let next = TokenNumber(t);
+            let on = State {
+                at: next,
+                nodes: st.nodes,
+                opened: st.opened,
+                used: st.used,
+            };
+            if leaves::begins_u(leaves::symbol_at(src, toks, next)) {
+                let right = rule_c(src, toks, tree, left, on);
+                match right {
+                    Parsed::Node(r, after) => {
+                        let made = leaves::put_binary(toks, tree, op, l, r, after);
+                        l = made.0;
+                        st = made.1;
+                    }
+                    Parsed::Refused(code, after) => return Parsed::Refused(code, after),
+                }
+            } else {
+                return Parsed::Refused(14, on);
+            }
+        } else {
+            return Parsed::Node(l, st);
+        }
+    }
+}
+
+// C: S by comparisons. `a<b<c` is And(a<b, b<c), whose b is one node.
+fn rule_c(src: &[u8], toks: &[u32], tree: &mut [u32], left: u32, s: State) -> Parsed
+    requires { ⌜ Ready (now src) (now toks) (now tree) s 6 ⌝ }
+    requires { ⌜ Begun (now src) (now toks) s C ⌝ }
+    ensures { λ r. ⌜ Rules (now (src .entry)) (now (toks .entry)) left C s (now (tree .entry)) r (now (tree .exit)) ⌝ }
+{
+    let at = s.at;
+    let opened = s.opened + 1;
+    let up = State {
+        at: at,
+        nodes: s.nodes,
+        opened: opened,
+        used: s.used,
+    };
+    let inner = rule_s(src, toks, tree, left, up);
+    match inner {
+        Parsed::Node(n, after) => {
+            let op = after.at;
+            if leaves::is_comparison(leaves::symbol_at(src, toks, op)) {
+                let t = op.0 + 1;
+                let on = State {
+                    at: TokenNumber(t),
+                    nodes: after.nodes,
+                    opened: after.opened,
+                    used: after.used,
+                };
+                cmp(src, toks, tree, left, op, n, on)
+            } else {
+                Parsed::Node(n, after)
+            }
+        }
+        Parsed::Refused(code, after) => Parsed::Refused(code, after),
+    }
+}
+
+// The first comparison, after its operator.
+fn cmp(
+    src: &[u8],
+    toks: &[u32],
+    tree: &mut [u32],
+    left: u32,
+    op: TokenNumber,
+    first: NodeNumber,
+    s: State,
+) -> Parsed
+    requires { ⌜ Ready (now src) (now toks) (now tree) s 1 ⌝ }
+    requires { ⌜ (op .0 < s .at .0) × (first .0 < s .nodes) ⌝ }
+    ensures { λ r. ⌜ Parts (now (src .entry)) (now (toks .entry)) left compares (token (op .0) ∷ node (first .0) ∷ []) node s (now (tree .entry)) r (now (tree .exit)) ⌝ }
+{
+    let at = s.at;
+    if leaves::begins_u(leaves::symbol_at(src, toks, at)) {
+        let right = rule_s(src, toks, tree, left, s);
+        match right {
+            Parsed::Node(n, after) => {
+                let made = leaves::put_binary(toks, tree, op, first, n, after);
+                let m = made.0;
+                let done = made.1;
+                cmp_more(src, toks, tree, left, m, n, done)
+            }
+            Parsed::Refused(code, after) => Parsed::Refused(code, after),
+        }
+    } else {
+        Parsed::Refused(14, s)
+    }
+}
+
+// The further comparisons: `first` is the node of those so far, `newest` the last operand.
+fn cmp_more(
+    src: &[u8],
+    toks: &[u32],
+    tree: &mut [u32],
+    left: u32,
+    first: NodeNumber,
+    newest: NodeNumber,
+    s: State,
+) -> Parsed
+    requires { ⌜ Ready (now src) (now toks) (now tree) s 1 ⌝ }
+    requires { ⌜ (first .0 < s .nodes) × (newest .0 < s .nodes) ⌝ }
+    ensures { λ r. ⌜ Parts (now (src .entry)) (now (toks .entry)) left chained (chain (first .0) (newest .0) ∷ []) node s (now (tree .entry)) r (now (tree .exit)) ⌝ }
+{
+    let mut l = first;
+    let mut x = newest;
+    let mut st = s;
+    loop {
+        let op = st.at;
+        if leaves::is_comparison(leaves::symbol_at(src, toks, op)) {
+            let t = op.0 + 1;
+            let next = TokenNumber(t);
+            let on = State {
+                at: next,
+                nodes: st.nodes,
+                opened: st.opened,
+                used: st.used,
+            };
+            if leaves::begins_u(leaves::symbol_at(src, toks, next)) {
+                let right = rule_s(src, toks, tree, left, on);
+                match right {
+                    Parsed::Node(r, after) => {
+                        let made = leaves::put_binary(toks, tree, op, x, r, after);
+                        let m = made.0;
+                        let up = made.1;
+                        let joined = leaves::put_and(toks, tree, l, m, up);
+                        l = joined.0;
+                        x = r;
+                        st = joined.1;
+                    }
+                    Parsed::Refused(code, after) => return Parsed::Refused(code, after),
+                }
+            } else {
+                return Parsed::Refused(14, on);
+            }
+        } else {
+            return Parsed::Node(l, st);
+        }
+    }
+}
+
+// S: P by + -.
+fn rule_s(src: &[u8], toks: &[u32], tree: &mut [u32], left: u32, s: State) -> Parsed
+    requires { ⌜ Ready (now src) (now toks) (now tree) s 7 ⌝ }
+    requires { ⌜ Begun (now src) (now toks) s S ⌝ }
+    ensures { λ r. ⌜ Rules (now (src .entry)) (now (toks .entry)) left S s (now (tree .entry)) r (now (tree .exit)) ⌝ }
+{
+    let at = s.at;
+    let opened = s.opened + 1;
+    let up = State {
+        at: at,
+        nodes: s.nodes,
+        opened: opened,
+        used: s.used,
+    };
+    let inner = rule_p(src, toks, tree, left, up);
+    match inner {
+        Parsed::Node(n, after) => more_s(src, toks, tree, left, n, after),
+        Parsed::Refused(code, after) => Parsed::Refused(code, after),
+    }
+}
+
+fn more_s(
+    src: &[u8],
+    toks: &[u32],
+    tree: &mut [u32],
+    left: u32,
+    first: NodeNumber,
+    s: State,
+) -> Parsed
+    requires { ⌜ Ready (now src) (now toks) (now tree) s 1 ⌝ }
+    requires { ⌜ first .0 < s .nodes ⌝ }
+    ensures { λ r. ⌜ Parts (now (src .entry)) (now (toks .entry)) left (many (term P (Plus ∷ Minus ∷ []))) (node (first .0) ∷ []) node s (now (tree .entry)) r (now (tree .exit)) ⌝ }
+{
+    let mut l = first;
+    let mut st = s;
+    loop {
+        let op = st.at;
+        if leaves::is_add(leaves::symbol_at(src, toks, op)) {
+            let t = op.0 + 1;
+            let next = TokenNumber(t);
+            let on = State {
+                at: next,
+                nodes: st.nodes,
+                opened: st.opened,
+                used: st.used,
+            };
+            if leaves::begins_u(leaves::symbol_at(src, toks, next)) {
+                let right = rule_p(src, toks, tree, left, on);
+                match right {
+                    Parsed::Node(r, after) => {
+                        let made = leaves::put_binary(toks, tree, op, l, r, after);
+                        l = made.0;
+                        st = made.1;
+                    }
+                    Parsed::Refused(code, after) => return Parsed::Refused(code, after),
+                }
+            } else {
+                return Parsed::Refused(14, on);
+            }
+        } else {
+            return Parsed::Node(l, st);
+        }
+    }
+}
+
+// P: U by * // / %.
+fn rule_p(src: &[u8], toks: &[u32], tree: &mut [u32], left: u32, s: State) -> Parsed
+    requires { ⌜ Ready (now src) (now toks) (now tree) s 8 ⌝ }
+    requires { ⌜ Begun (now src) (now toks) s P ⌝ }
+    ensures { λ r. ⌜ Rules (now (src .entry)) (now (toks .entry)) left P s (now (tree .entry)) r (now (tree .exit)) ⌝ }
+{
+    let at = s.at;
+    let opened = s.opened + 1;
+    let up = State {
+        at: at,
+        nodes: s.nodes,
+        opened: opened,
+        used: s.used,
+    };
+    let inner = rule_u(src, toks, tree, left, up);
+    match inner {
+        Parsed::Node(n, after) => more_p(src, toks, tree, left, n, after),
+        Parsed::Refused(code, after) => Parsed::Refused(code, after),
+    }
+}
+
+fn more_p(
+    src: &[u8],
+    toks: &[u32],
+    tree: &mut [u32],
+    left: u32,
+    first: NodeNumber,
+    s: State,
+) -> Parsed
+    requires { ⌜ Ready (now src) (now toks) (now tree) s 1 ⌝ }
+    requires { ⌜ first .0 < s .nodes ⌝ }
+    ensures { λ r. ⌜ Parts (now (src .entry)) (now (toks .entry)) left (many (term U (Star ∷ SlashSlash ∷ Slash ∷ Percent ∷ []))) (node (first .0) ∷ []) node s (now (tree .entry)) r (now (tree .exit)) ⌝ }
+{
+    let mut l = first;
+    let mut st = s;
+    loop {
+        let op = st.at;
+        if leaves::is_multiply(leaves::symbol_at(src, toks, op)) {
+            let t = op.0 + 1;
+            let next = TokenNumber(t);
+            let on = State {
+                at: next,
+                nodes: st.nodes,
+                opened: st.opened,
+                used: st.used,
+            };
+            if leaves::begins_u(leaves::symbol_at(src, toks, next)) {
+                let right = rule_u(src, toks, tree, left, on);
+                match right {
+                    Parsed::Node(r, after) => {
+                        let made = leaves::put_binary(toks, tree, op, l, r, after);
+                        l = made.0;
+                        st = made.1;
+                    }
+                    Parsed::Refused(code, after) => return Parsed::Refused(code, after),
+                }
+            } else {
+                return Parsed::Refused(14, on);
+            }
+        } else {
+            return Parsed::Node(l, st);
+        }
+    }
+}
+
+// U: any of not - +, then F.
+fn rule_u(src: &[u8], toks: &[u32], tree: &mut [u32], left: u32, s: State) -> Parsed
+    requires { ⌜ Ready (now src) (now toks) (now tree) s 9 ⌝ }
+    requires { ⌜ Begun (now src) (now toks) s U ⌝ }
+    ensures { λ r. ⌜ Rules (now (src .entry)) (now (toks .entry)) left U s (now (tree .entry)) r (now (tree .exit)) ⌝ }
+{
+    let first = s.at;
+    let opened = s.opened + 1;
+    let end = leaves::skip_signs(src, toks, first);
+    let on = State {
+        at: end,
+        nodes: s.nodes,
+        opened: opened,
+        used: s.used,
+    };
+    if leaves::begins_f(leaves::symbol_at(src, toks, end)) {
+        let inner = rule_f(src, toks, tree, left, on);
+        match inner {
+            Parsed::Node(n, after) => {
+                let made = leaves::wrap(toks, tree, first, end, n, after);
+                let m = made.0;
+                let done = made.1;
+                Parsed::Node(m, done)
+            }
+            Parsed::Refused(code, after) => Parsed::Refused(code, after),
+        }
+    } else {
+        Parsed::Refused(14, on)
+    }
+}
+
+// F: a primary, then .name (list) [E] repeated.
+fn rule_f(src: &[u8], toks: &[u32], tree: &mut [u32], left: u32, s: State) -> Parsed
+    requires { ⌜ Ready (now src) (now toks) (now tree) s 10 ⌝ }
+    requires { ⌜ Begun (now src) (now toks) s F ⌝ }
+    ensures { λ r. ⌜ Rules (now (src .entry)) (now (toks .entry)) left F s (now (tree .entry)) r (now (tree .exit)) ⌝ }
+{
+    let at = s.at;
+    let opened = s.opened + 1;
+    let up = State {
+        at: at,
+        nodes: s.nodes,
+        opened: opened,
+        used: s.used,
+    };
+    let inner = head(src, toks, tree, left, up);
+    match inner {
+        Parsed::Node(n, after) => posts(src, toks, tree, left, n, after),
+        Parsed::Refused(code, after) => Parsed::Refused(code, after),
+    }
+}
+
+// What stands before the postfix parts: a bracket, the name `t`, a name, or else a literal.
+fn head(src: &[u8], toks: &[u32], tree: &mut [u32], left: u32, s: State) -> Parsed
+    requires { ⌜ Ready (now src) (now toks) (now tree) s 11 ⌝ }
+    requires { ⌜ Begun (now src) (now toks) s F ⌝ }
+    ensures { λ r. ⌜ Parts (now (src .entry)) (now (toks .entry)) left primary [] node s (now (tree .entry)) r (now (tree .exit)) ⌝ }
+{
+    let at = s.at;
+    let t = at.0 + 1;
+    let on = State {
+        at: TokenNumber(t),
+        nodes: s.nodes,
+        opened: s.opened,
+        used: s.used,
+    };
+    match leaves::symbol_at(src, toks, at) {
+        token::LBRACKET => shown(src, toks, tree, left, at, token::RBRACKET, ast::LIST, on),
+        leaves::TEE => tee(src, toks, tree, left, at, on),
+        token::LBRACE => braces(src, toks, tree, left, at, on),
+        token::LPAREN => round(src, toks, tree, left, at, on),
+        token::IDENTIFIER => {
+            let made = leaves::put_named(toks, tree, ast::VARIABLE, on);
+            let n = made.0;
+            let after = made.1;
+            Parsed::Node(n, after)
+        }
+        _ => {
+            let made = leaves::put_literal(src, toks, tree, on);
+            let n = made.0;
+            let after = made.1;
+            Parsed::Node(n, after)
+        }
+    }
+}
+
+// After the name `t`, the token `opener`: t{list}, or the name alone.
+fn tee(
+    src: &[u8],
+    toks: &[u32],
+    tree: &mut [u32],
+    left: u32,
+    opener: TokenNumber,
+    s: State,
+) -> Parsed
+    requires { ⌜ Ready (now src) (now toks) (now tree) s 1 ⌝ }
+    requires { ⌜ opener .0 + 1 ≡ s .at .0 ⌝ }
+    ensures { λ r. ⌜ Parts (now (src .entry)) (now (toks .entry)) left teeOn [] node s (now (tree .entry)) r (now (tree .exit)) ⌝ }
+{
+    let at = s.at;
+    if leaves::is_symbol(leaves::symbol_at(src, toks, at), token::LBRACE) {
+        let t = at.0 + 1;
+        let on = State {
+            at: TokenNumber(t),
+            nodes: s.nodes,
+            opened: s.opened,
+            used: s.used,
+        };
+        shown(
+            src,
+            toks,
+            tree,
+            left,
+            opener,
+            token::RBRACE,
+            ast::TREE_SET,
+            on,
+        )
+    } else {
+        let made = leaves::put_named(toks, tree, ast::VARIABLE, s);
+        let n = made.0;
+        let after = made.1;
+        Parsed::Node(n, after)
+    }
+}
+
+// A list of E up to the bracket `close`, as a node of this kind from the token `opener` on.
+fn shown(
+    src: &[u8],
+    toks: &[u32],
+    tree: &mut [u32],
+    left: u32,
+    opener: TokenNumber,
+    close: u32,
+    kind: u32,
+    s: State,
+) -> Parsed
+    requires { ⌜ Ready (now src) (now toks) (now tree) s 1 ⌝ }
+    requires { ⌜ (opener .0 < s .at .0) × (mem Eof (close ∷ []) ≡ false) × (mem String (close ∷ []) ≡ false) ⌝ }
+    ensures { λ r. ⌜ Parts (now (src .entry)) (now (toks .entry)) left (enclosed close kind) (token (opener .0) ∷ []) node s (now (tree .entry)) r (now (tree .exit)) ⌝ }
+{
+    let inner = items(src, toks, tree, left, s);
+    match inner {
+        Parsed::Node(first, after) => shut(
+            src,
+            toks,
+            tree,
+            left,
+            opener,
+            close,
+            kind,
+            first,
+            after,
+        ),
+        Parsed::Refused(code, after) => Parsed::Refused(code, after),
+    }
+}
+
+// The bracket that ends a list.
+fn shut(
+    src: &[u8],
+    toks: &[u32],
+    tree: &mut [u32],
+    left: u32,
+    opener: TokenNumber,
+    close: u32,
+    kind: u32,
+    first: NodeNumber,
+    s: State,
+) -> Parsed
+    requires { ⌜ Ready (now src) (now toks) (now tree) s 1 ⌝ }
+    requires { ⌜ (opener .0 < s .at .0) × (mem Eof (close ∷ []) ≡ false) × (mem String (close ∷ []) ≡ false) ⌝ }
+    ensures { λ r. ⌜ Parts (now (src .entry)) (now (toks .entry)) left (closes close kind) (list (first .0) ∷ token (opener .0) ∷ []) node s (now (tree .entry)) r (now (tree .exit)) ⌝ }
+{
+    let at = s.at;
+    if leaves::is_symbol(leaves::symbol_at(src, toks, at), close) {
+        let t = at.0 + 1;
+        let on = State {
+            at: TokenNumber(t),
+            nodes: s.nodes,
+            opened: s.opened,
+            used: s.used,
+        };
+        let made = leaves::put_enclosed(toks, tree, kind, opener, first, on);
+        let n = made.0;
+        let after = made.1;
+        Parsed::Node(n, after)
+    } else {
+        Parsed::Refused(14, s)
+    }
+}
+
+// A list of E, which may be empty: its first node, or none.
+fn items(src: &[u8], toks: &[u32], tree: &mut [u32], left: u32, s: State) -> Parsed
+    requires { ⌜ Ready (now src) (now toks) (now tree) s 1 ⌝ }
+    ensures { λ r. ⌜ Parts (now (src .entry)) (now (toks .entry)) left rules.list [] list s (now (tree .entry)) r (now (tree .exit)) ⌝ }
+{
+    let at = s.at;
+    if leaves::begins_e(leaves::symbol_at(src, toks, at)) {
+        let inner = rule_e(src, toks, tree, left, s);
+        match inner {
+            Parsed::Node(n, after) => {
+                let more = rest(src, toks, tree, left, n, n, after);
+                match more {
+                    Parsed::Node(first, done) => Parsed::Node(first, done),
+                    Parsed::Refused(code, done) => Parsed::Refused(code, done),
+                }
+            }
+            Parsed::Refused(code, after) => Parsed::Refused(code, after),
+        }
+    } else {
+        Parsed::Node(NodeNumber(ast::NONE_NODE), s)
+    }
+}
+
+// The rest of a list of E after the member `newest`: each member is linked to the one before it.
+fn rest(
+    src: &[u8],
+    toks: &[u32],
+    tree: &mut [u32],
+    left: u32,
+    first: NodeNumber,
+    newest: NodeNumber,
+    s: State,
+) -> Parsed
+    requires { ⌜ Ready (now src) (now toks) (now tree) s 1 ⌝ }
+    requires { ⌜ (first .0 < s .nodes) × (newest .0 < s .nodes) ⌝ }
+    ensures { λ r. ⌜ Lists (now (src .entry)) (now (toks .entry)) left others (growing (first .0) (newest .0) ∷ []) s (now (tree .entry)) r (now (tree .exit)) ⌝ }
+{
+    let mut last = newest;
+    let mut st = s;
+    loop {
+        let at = st.at;
+        if leaves::is_symbol(leaves::symbol_at(src, toks, at), token::COMMA) {
+            let t = at.0 + 1;
+            let next = TokenNumber(t);
+            let on = State {
+                at: next,
+                nodes: st.nodes,
+                opened: st.opened,
+                used: st.used,
+            };
+            if leaves::begins_e(leaves::symbol_at(src, toks, next)) {
+                let inner = rule_e(src, toks, tree, left, on);
+                match inner {
+                    Parsed::Node(n, after) => {
+                        leaves::link(tree, last, n, after);
+                        last = n;
+                        st = after;
+                    }
+                    Parsed::Refused(code, after) => return Parsed::Refused(code, after),
+                }
+            } else {
+                return Parsed::Node(first, on);
+            }
+        } else {
+            return Parsed::Node(first, st);
+        }
+    }
+}
+
+// After `{`: `}` at once is a Dict, else the first E decides.
+fn braces(
+    src: &[u8],
+    toks: &[u32],
+    tree: &mut [u32],
+    left: u32,
+    opener: TokenNumber,
+    s: State,
+) -> Parsed
+    requires { ⌜ Ready (now src) (now toks) (now tree) s 1 ⌝ }
+    requires { ⌜ opener .0 < s .at .0 ⌝ }
+    ensures { λ r. ⌜ Parts (now (src .entry)) (now (toks .entry)) left tables.braces (token (opener .0) ∷ []) node s (now (tree .entry)) r (now (tree .exit)) ⌝ }
+{
+    let at = s.at;
+    if leaves::is_symbol(leaves::symbol_at(src, toks, at), token::RBRACE) {
+        let t = at.0 + 1;
+        let on = State {
+            at: TokenNumber(t),
+            nodes: s.nodes,
+            opened: s.opened,
+            used: s.used,
+        };
+        let made = leaves::put_empty(toks, tree, ast::DICT, opener, on);
+        let n = made.0;
+        let after = made.1;
+        Parsed::Node(n, after)
+    } else {
+        let inner = enter(src, toks, tree, left, s);
+        match inner {
+            Parsed::Node(n, after) => brace(src, toks, tree, left, opener, n, after),
+            Parsed::Refused(code, after) => Parsed::Refused(code, after),
+        }
+    }
+}
+
+// After the first E in braces: a colon makes it a pair, anything else a member.
+fn brace(
+    src: &[u8],
+    toks: &[u32],
+    tree: &mut [u32],
+    left: u32,
+    opener: TokenNumber,
+    first: NodeNumber,
+    s: State,
+) -> Parsed
+    requires { ⌜ Ready (now src) (now toks) (now tree) s 1 ⌝ }
+    requires { ⌜ (opener .0 < s .at .0) × (first .0 < s .nodes) ⌝ }
+    ensures { λ r. ⌜ Parts (now (src .entry)) (now (toks .entry)) left (pairsOn ∕ setOn) (node (first .0) ∷ token (opener .0) ∷ []) node s (now (tree .entry)) r (now (tree .exit)) ⌝ }
+{
+    let at = s.at;
+    if leaves::is_symbol(leaves::symbol_at(src, toks, at), token::COLON) {
+        let t = at.0 + 1;
+        let on = State {
+            at: TokenNumber(t),
+            nodes: s.nodes,
+            opened: s.opened,
+            used: s.used,
+        };
+        pairs(src, toks, tree, left, opener, first, on)
+    } else {
+        set(src, toks, tree, left, opener, first, s)
+    }
+}
+
+fn set(
+    src: &[u8],
+    toks: &[u32],
+    tree: &mut [u32],
+    left: u32,
+    opener: TokenNumber,
+    first: NodeNumber,
+    s: State,
+) -> Parsed
+    requires { ⌜ Ready (now src) (now toks) (now tree) s 1 ⌝ }
+    requires { ⌜ (opener .0 < s .at .0) × (first .0 < s .nodes) ⌝ }
+    ensures { λ r. ⌜ Parts (now (src .entry)) (now (toks .entry)) left setOn (node (first .0) ∷ token (opener .0) ∷ []) node s (now (tree .entry)) r (now (tree .exit)) ⌝ }
+{
+    let inner = rest(src, toks, tree, left, first, first, s);
+    match inner {
+        Parsed::Node(head, after) => shut(
+            src,
+            toks,
+            tree,
+            left,
+            opener,
+            token::RBRACE,
+            ast::SET,
+            head,
+            after,
+        ),
+        Parsed::Refused(code, after) => Parsed::Refused(code, after),
+    }
+}
+
+// A Dict, after the colon of its first pair.
+fn pairs(
+    src: &[u8],
+    toks: &[u32],
+    tree: &mut [u32],
+    left: u32,
+    opener: TokenNumber,
+    key: NodeNumber,
+    s: State,
+) -> Parsed
+    requires { ⌜ Ready (now src) (now toks) (now tree) s 1 ⌝ }
+    requires { ⌜ (opener .0 < s .at .0) × (key .0 < s .nodes) ⌝ }
+    ensures { λ r. ⌜ Parts (now (src .entry)) (now (toks .entry)) left pairsRest (node (key .0) ∷ token (opener .0) ∷ []) node s (now (tree .entry)) r (now (tree .exit)) ⌝ }
+{
+    let inner = value(src, toks, tree, left, key, s);
+    match inner {
+        Parsed::Node(n, after) => {
+            let more = entries(src, toks, tree, left, n, n, after);
+            match more {
+                Parsed::Node(head, done) => shut(
+                    src,
+                    toks,
+                    tree,
+                    left,
+                    opener,
+                    token::RBRACE,
+                    ast::DICT,
+                    head,
+                    done,
+                ),
+                Parsed::Refused(code, done) => Parsed::Refused(code, done),
+            }
+        }
+        Parsed::Refused(code, after) => Parsed::Refused(code, after),
+    }
+}
+
+// A pair, after its colon.
+fn value(src: &[u8], toks: &[u32], tree: &mut [u32], left: u32, key: NodeNumber, s: State) -> Parsed
+    requires { ⌜ Ready (now src) (now toks) (now tree) s 1 ⌝ }
+    requires { ⌜ key .0 < s .nodes ⌝ }
+    ensures { λ r. ⌜ Parts (now (src .entry)) (now (toks .entry)) left valued (node (key .0) ∷ []) node s (now (tree .entry)) r (now (tree .exit)) ⌝ }
+{
+    let inner = enter(src, toks, tree, left, s);
+    match inner {
+        Parsed::Node(n, after) => {
+            let made = leaves::put_pair(toks, tree, key, n, after);
+            let m = made.0;
+            let done = made.1;
+            Parsed::Node(m, done)
+        }
+        Parsed::Refused(code, after) => Parsed::Refused(code, after),
+    }
+}
+
+// A pair.
+fn item(src: &[u8], toks: &[u32], tree: &mut [u32], left: u32, s: State) -> Parsed
+    requires { ⌜ Ready (now src) (now toks) (now tree) s 1 ⌝ }
+    requires { ⌜ Begun (now src) (now toks) s E ⌝ }
+    ensures { λ r. ⌜ Parts (now (src .entry)) (now (toks .entry)) left entry [] node s (now (tree .entry)) r (now (tree .exit)) ⌝ }
+{
+    let inner = rule_e(src, toks, tree, left, s);
+    match inner {
+        Parsed::Node(key, after) => {
+            let colon = after.at;
+            if leaves::is_symbol(leaves::symbol_at(src, toks, colon), token::COLON) {
+                let t = colon.0 + 1;
+                let on = State {
+                    at: TokenNumber(t),
+                    nodes: after.nodes,
+                    opened: after.opened,
+                    used: after.used,
+                };
+                value(src, toks, tree, left, key, on)
+            } else {
+                Parsed::Refused(14, after)
+            }
+        }
+        Parsed::Refused(code, after) => Parsed::Refused(code, after),
+    }
+}
+
+// The rest of a list of pairs.
+fn entries(
+    src: &[u8],
+    toks: &[u32],
+    tree: &mut [u32],
+    left: u32,
+    first: NodeNumber,
+    newest: NodeNumber,
+    s: State,
+) -> Parsed
+    requires { ⌜ Ready (now src) (now toks) (now tree) s 1 ⌝ }
+    requires { ⌜ (first .0 < s .nodes) × (newest .0 < s .nodes) ⌝ }
+    ensures { λ r. ⌜ Lists (now (src .entry)) (now (toks .entry)) left entries (growing (first .0) (newest .0) ∷ []) s (now (tree .entry)) r (now (tree .exit)) ⌝ }
+{
+    let mut last = newest;
+    let mut st = s;
+    loop {
+        let at = st.at;
+        if leaves::is_symbol(leaves::symbol_at(src, toks, at), token::COMMA) {
+            let t = at.0 + 1;
+            let next = TokenNumber(t);
+            let on = State {
+                at: next,
+                nodes: st.nodes,
+                opened: st.opened,
+                used: st.used,
+            };
+            if leaves::begins_e(leaves::symbol_at(src, toks, next)) {
+                let inner = item(src, toks, tree, left, on);
+                match inner {
+                    Parsed::Node(n, after) => {
+                        leaves::link(tree, last, n, after);
+                        last = n;
+                        st = after;
+                    }
+                    Parsed::Refused(code, after) => return Parsed::Refused(code, after),
+                }
+            } else {
+                return Parsed::Node(first, on);
+            }
+        } else {
+            return Parsed::Node(first, st);
+        }
+    }
+}
+
+// Parentheses, after the `(` that is the token `opener`.
+fn round(
+    src: &[u8],
+    toks: &[u32],
+    tree: &mut [u32],
+    left: u32,
+    opener: TokenNumber,
+    s: State,
+) -> Parsed
+    requires { ⌜ Ready (now src) (now toks) (now tree) s 1 ⌝ }
+    requires { ⌜ opener .0 < s .at .0 ⌝ }
+    ensures { λ r. ⌜ Parts (now (src .entry)) (now (toks .entry)) left tables.round (token (opener .0) ∷ []) node s (now (tree .entry)) r (now (tree .exit)) ⌝ }
+{
+    let at = s.at;
+    if leaves::begins_e(leaves::symbol_at(src, toks, at)) {
+        let inner = rule_e(src, toks, tree, left, s);
+        match inner {
+            Parsed::Node(n, after) => paren(src, toks, tree, left, opener, n, after),
+            Parsed::Refused(code, after) => Parsed::Refused(code, after),
+        }
+    } else if leaves::is_symbol(leaves::symbol_at(src, toks, at), token::RPAREN) {
+        let t = at.0 + 1;
+        let on = State {
+            at: TokenNumber(t),
+            nodes: s.nodes,
+            opened: s.opened,
+            used: s.used,
+        };
+        unit(src, toks, tree, left, opener, on)
+    } else {
+        Parsed::Refused(14, s)
+    }
+}
+
+// After `()`: another `)` makes it the empty Tuple.
+fn unit(
+    src: &[u8],
+    toks: &[u32],
+    tree: &mut [u32],
+    left: u32,
+    opener: TokenNumber,
+    s: State,
+) -> Parsed
+    requires { ⌜ Ready (now src) (now toks) (now tree) s 1 ⌝ }
+    requires { ⌜ opener .0 < s .at .0 ⌝ }
+    ensures { λ r. ⌜ Parts (now (src .entry)) (now (toks .entry)) left (rules.tk RParen ⨾ act (empty kind.Tuple)) (token (opener .0) ∷ []) node s (now (tree .entry)) r (now (tree .exit)) ⌝ }
+{
+    let at = s.at;
+    if leaves::is_symbol(leaves::symbol_at(src, toks, at), token::RPAREN) {
+        let t = at.0 + 1;
+        let on = State {
+            at: TokenNumber(t),
+            nodes: s.nodes,
+            opened: s.opened,
+            used: s.used,
+        };
+        let made = leaves::put_empty(toks, tree, ast::TUPLE, opener, on);
+        let n = made.0;
+        let after = made.1;
+        Parsed::Node(n, after)
+    } else {
+        Parsed::Refused(14, s)
+    }
+}
+
+// After the first E in parentheses: `)`, and the node's span is widened; or a comma, and it is a Tuple.
+fn paren(
+    src: &[u8],
+    toks: &[u32],
+    tree: &mut [u32],
+    left: u32,
+    opener: TokenNumber,
+    first: NodeNumber,
+    s: State,
+) -> Parsed
+    requires { ⌜ Ready (now src) (now toks) (now tree) s 1 ⌝ }
+    requires { ⌜ (opener .0 < s .at .0) × (first .0 < s .nodes) ⌝ }
+    ensures { λ r. ⌜ Parts (now (src .entry)) (now (toks .entry)) left roundOn (node (first .0) ∷ token (opener .0) ∷ []) node s (now (tree .entry)) r (now (tree .exit)) ⌝ }
+{
+    let at = s.at;
+    let symbol = leaves::symbol_at(src, toks, at);
+    if leaves::is_symbol(symbol, token::RPAREN) {
+        let t = at.0 + 1;
+        let on = State {
+            at: TokenNumber(t),
+            nodes: s.nodes,
+            opened: s.opened,
+            used: s.used,
+        };
+        leaves::widen(toks, tree, opener, first, on);
+        Parsed::Node(first, on)
+    } else if leaves::is_symbol(symbol, token::COMMA) {
+        let t = at.0 + 1;
+        let on = State {
+            at: TokenNumber(t),
+            nodes: s.nodes,
+            opened: s.opened,
+            used: s.used,
+        };
+        tuple(src, toks, tree, left, opener, first, on)
+    } else {
+        Parsed::Refused(14, s)
+    }
+}
+
+// A Tuple, after its first comma.
+fn tuple(
+    src: &[u8],
+    toks: &[u32],
+    tree: &mut [u32],
+    left: u32,
+    opener: TokenNumber,
+    first: NodeNumber,
+    s: State,
+) -> Parsed
+    requires { ⌜ Ready (now src) (now toks) (now tree) s 1 ⌝ }
+    requires { ⌜ (opener .0 < s .at .0) × (first .0 < s .nodes) ⌝ }
+    ensures { λ r. ⌜ Parts (now (src .entry)) (now (toks .entry)) left tupleRest (node (first .0) ∷ token (opener .0) ∷ []) node s (now (tree .entry)) r (now (tree .exit)) ⌝ }
+{
+    let at = s.at;
+    if leaves::begins_e(leaves::symbol_at(src, toks, at)) {
+        let inner = rule_e(src, toks, tree, left, s);
+        match inner {
+            Parsed::Node(n, after) => {
+                leaves::link(tree, first, n, after);
+                let more = rest(src, toks, tree, left, first, n, after);
+                match more {
+                    Parsed::Node(head, done) => shut(
+                        src,
+                        toks,
+                        tree,
+                        left,
+                        opener,
+                        token::RPAREN,
+                        ast::TUPLE,
+                        head,
+                        done,
+                    ),
+                    Parsed::Refused(code, done) => Parsed::Refused(code, done),
+                }
+            }
+            Parsed::Refused(code, after) => Parsed::Refused(code, after),
+        }
+    } else {
+        shut(
+            src,
+            toks,
+            tree,
+            left,
+            opener,
+            token::RPAREN,
+            ast::TUPLE,
+            first,
+            s,
+        )
+    }
+}
+
+// What follows a primary.
+fn posts(
+    src: &[u8],
+    toks: &[u32],
+    tree: &mut [u32],
+    left: u32,
+    first: NodeNumber,
+    s: State,
+) -> Parsed
+    requires { ⌜ Ready (now src) (now toks) (now tree) s 2 ⌝ }
+    requires { ⌜ first .0 < s .nodes ⌝ }
+    ensures { λ r. ⌜ Parts (now (src .entry)) (now (toks .entry)) left (many postfix) (node (first .0) ∷ []) node s (now (tree .entry)) r (now (tree .exit)) ⌝ }
+{
+    let mut n = first;
+    let mut st = s;
+    loop {
+        let at = st.at;
+        if leaves::begins_postfix(leaves::symbol_at(src, toks, at)) {
+            let more = post(src, toks, tree, left, n, st);
+            match more {
+                Parsed::Node(m, after) => {
+                    n = m;
+                    st = after;
+                }
+                Parsed::Refused(code, after) => return Parsed::Refused(code, after),
+            }
+        } else {
+            return Parsed::Node(n, st);
+        }
+    }
+}
+
+// One of them: the token there begins it.
+fn post(src: &[u8], toks: &[u32], tree: &mut [u32], left: u32, n: NodeNumber, s: State) -> Parsed
+    requires { ⌜ Ready (now src) (now toks) (now tree) s 2 ⌝ }
+    requires { ⌜ (n .0 < s .nodes) × (mem (symbolAt (now src) (now toks) (s .at .0)) (Dot ∷ LParen ∷ LBracket ∷ []) ≡ true) ⌝ }
+    ensures { λ r. ⌜ Parts (now (src .entry)) (now (toks .entry)) left postfix (node (n .0) ∷ []) node s (now (tree .entry)) r (now (tree .exit)) ⌝ }
+{
+    let at = s.at;
+    let t = at.0 + 1;
+    let next = TokenNumber(t);
+    let on = State {
+        at: next,
+        nodes: s.nodes,
+        opened: s.opened,
+        used: s.used,
+    };
+    match leaves::symbol_at(src, toks, at) {
+        token::DOT => {
+            if leaves::is_name(leaves::symbol_at(src, toks, next)) {
+                let u = t + 1;
+                let past = State {
+                    at: TokenNumber(u),
+                    nodes: s.nodes,
+                    opened: s.opened,
+                    used: s.used,
+                };
+                let made = leaves::put_attribute(toks, tree, n, past);
+                let m = made.0;
+                let after = made.1;
+                Parsed::Node(m, after)
+            } else {
+                Parsed::Refused(14, on)
+            }
+        }
+        token::LPAREN => args(src, toks, tree, left, n, on),
+        _ => index(src, toks, tree, left, n, on),
+    }
+}
+
+// A call, after its `(`.
+fn args(src: &[u8], toks: &[u32], tree: &mut [u32], left: u32, n: NodeNumber, s: State) -> Parsed
+    requires { ⌜ Ready (now src) (now toks) (now tree) s 1 ⌝ }
+    requires { ⌜ n .0 < s .nodes ⌝ }
+    ensures { λ r. ⌜ Parts (now (src .entry)) (now (toks .entry)) left callOn (node (n .0) ∷ []) node s (now (tree .entry)) r (now (tree .exit)) ⌝ }
+{
+    let inner = items(src, toks, tree, left, s);
+    match inner {
+        Parsed::Node(first, after) => {
+            let close = after.at;
+            if leaves::is_symbol(leaves::symbol_at(src, toks, close), token::RPAREN) {
+                let t = close.0 + 1;
+                let on = State {
+                    at: TokenNumber(t),
+                    nodes: after.nodes,
+                    opened: after.opened,
+                    used: after.used,
+                };
+                let made = leaves::put_apply(toks, tree, n, first, on);
+                let m = made.0;
+                let done = made.1;
+                Parsed::Node(m, done)
+            } else {
+                Parsed::Refused(14, after)
+            }
+        }
+        Parsed::Refused(code, after) => Parsed::Refused(code, after),
+    }
+}
+
+// An index, after its `[`.
+fn index(src: &[u8], toks: &[u32], tree: &mut [u32], left: u32, n: NodeNumber, s: State) -> Parsed
+    requires { ⌜ Ready (now src) (now toks) (now tree) s 1 ⌝ }
+    requires { ⌜ n .0 < s .nodes ⌝ }
+    ensures { λ r. ⌜ Parts (now (src .entry)) (now (toks .entry)) left indexOn (node (n .0) ∷ []) node s (now (tree .entry)) r (now (tree .exit)) ⌝ }
+{
+    let inner = enter(src, toks, tree, left, s);
+    match inner {
+        Parsed::Node(i, after) => {
+            let close = after.at;
+            if leaves::is_symbol(leaves::symbol_at(src, toks, close), token::RBRACKET) {
+                let t = close.0 + 1;
+                let on = State {
+                    at: TokenNumber(t),
+                    nodes: after.nodes,
+                    opened: after.opened,
+                    used: after.used,
+                };
+                let made = leaves::put_index(toks, tree, n, i, on);
+                let m = made.0;
+                let done = made.1;
+                Parsed::Node(m, done)
+            } else {
+                Parsed::Refused(14, after)
+            }
+        }
+        Parsed::Refused(code, after) => Parsed::Refused(code, after),
+    }
+}
+
+// A list of names, which may be empty.
+pub fn names(src: &[u8], toks: &[u32], tree: &mut [u32], s: State) -> Added
+    requires { ⌜ Ready (now src) (now toks) (now tree) s 1 ⌝ }
+    ensures { λ r. ⌜ ((room : ℕ) → Parts (now (src .entry)) (now (toks .entry)) room parameters [] list s (now (tree .entry)) (parsed.Node (r .0) (r .1)) (now (tree .exit))) ⌝ }
+{
+    let at = s.at;
+    if leaves::is_name(leaves::symbol_at(src, toks, at)) {
+        let t = at.0 + 1;
+        let on = State {
+            at: TokenNumber(t),
+            nodes: s.nodes,
+            opened: s.opened,
+            used: s.used,
+        };
+        let made = leaves::put_named(toks, tree, ast::NAME, on);
+        let first = made.0;
+        let after = made.1;
+        names_rest(src, toks, tree, first, after)
+    } else {
+        Added(NodeNumber(ast::NONE_NODE), s)
+    }
+}
+
+// The rest of a list of names.
+fn names_rest(src: &[u8], toks: &[u32], tree: &mut [u32], first: NodeNumber, s: State) -> Added
+    requires { ⌜ Ready (now src) (now toks) (now tree) s 1 ⌝ }
+    requires { ⌜ first .0 < s .nodes ⌝ }
+    ensures { λ r. ⌜ ((room : ℕ) → Parts (now (src .entry)) (now (toks .entry)) room (tail Comma (more name) ⨾ act list-done) (growing (first .0) (first .0) ∷ []) list s (now (tree .entry)) (parsed.Node (r .0) (r .1)) (now (tree .exit))) ⌝ }
+{
+    let mut last = first;
+    let mut st = s;
+    loop {
+        let at = st.at;
+        if leaves::is_symbol(leaves::symbol_at(src, toks, at), token::COMMA) {
+            let t = at.0 + 1;
+            let next = TokenNumber(t);
+            if leaves::is_name(leaves::symbol_at(src, toks, next)) {
+                let u = t + 1;
+                let on = State {
+                    at: TokenNumber(u),
+                    nodes: st.nodes,
+                    opened: st.opened,
+                    used: st.used,
+                };
+                let made = leaves::put_named(toks, tree, ast::NAME, on);
+                let n = made.0;
+                let after = made.1;
+                leaves::link(tree, last, n, after);
+                last = n;
+                st = after;
+            } else {
+                let on = State {
+                    at: next,
+                    nodes: st.nodes,
+                    opened: st.opened,
+                    used: st.used,
+                };
+                return Added(first, on);
+            }
+        } else {
+            return Added(first, st);
+        }
+    }
+}
+
+// t: E separated by commas. One E alone stays that E; more make a Tuple.
+pub fn comma_list(src: &[u8], toks: &[u32], tree: &mut [u32], left: u32, s: State) -> Parsed
+    requires { ⌜ Ready (now src) (now toks) (now tree) s 3 ⌝ }
+    ensures { λ r. ⌜ Parts (now (src .entry)) (now (toks .entry)) left tJoined [] node s (now (tree .entry)) r (now (tree .exit)) ⌝ }
+{
+    let inner = enter(src, toks, tree, left, s);
+    match inner {
+        Parsed::Node(n, after) => {
+            let at = after.at;
+            if leaves::is_symbol(leaves::symbol_at(src, toks, at), token::COMMA) {
+                let t = at.0 + 1;
+                let on = State {
+                    at: TokenNumber(t),
+                    nodes: after.nodes,
+                    opened: after.opened,
+                    used: after.used,
+                };
+                comma_rest(src, toks, tree, left, n, on)
+            } else {
+                Parsed::Node(n, after)
+            }
+        }
+        Parsed::Refused(code, after) => Parsed::Refused(code, after),
+    }
+}
+
+// After the first comma of t.
+fn comma_rest(
+    src: &[u8],
+    toks: &[u32],
+    tree: &mut [u32],
+    left: u32,
+    first: NodeNumber,
+    s: State,
+) -> Parsed
+    requires { ⌜ Ready (now src) (now toks) (now tree) s 1 ⌝ }
+    requires { ⌜ first .0 < s .nodes ⌝ }
+    ensures { λ r. ⌜ Parts (now (src .entry)) (now (toks .entry)) left tOn (node (first .0) ∷ []) node s (now (tree .entry)) r (now (tree .exit)) ⌝ }
+{
+    let at = s.at;
+    if leaves::begins_e(leaves::symbol_at(src, toks, at)) {
+        let inner = rule_e(src, toks, tree, left, s);
+        match inner {
+            Parsed::Node(n, after) => {
+                leaves::link(tree, first, n, after);
+                let more = rest(src, toks, tree, left, first, n, after);
+                match more {
+                    Parsed::Node(head, done) => {
+                        let made = leaves::put_tuple(toks, tree, head, done);
+                        let m = made.0;
+                        let end = made.1;
+                        Parsed::Node(m, end)
+                    }
+                    Parsed::Refused(code, done) => Parsed::Refused(code, done),
+                }
+            }
+            Parsed::Refused(code, after) => Parsed::Refused(code, after),
+        }
+    } else {
+        Parsed::Node(first, s)
+    }
+}
