@@ -6,18 +6,17 @@
 // part of a rule is `Parts`, with the values that are at hand, which are its parameters; `Lists` for the rest of a list.
 ghost use mathlib.Core.Path.{_≡_};
 ghost use mathlib.Core.Bool.{true, false};
-ghost use mathlib.Core.List.{List, [], _∷_};
-ghost use Prim.Native.Nat.{ℕ, _+_, _*_, _-_, _≤_, _<_};
-ghost use lib.ListN.{length};
+ghost use mathlib.Core.List.{[], _∷_};
+ghost use Prim.Native.Nat.{ℕ, _+_, _*_, _-_, _<_};
 ghost use Rattle.grammar.specs.Sets.{mem};
-ghost use Rattle.grammar.specs.Grammar.{call, many, tail, act, tok, skip, _⨾_, _∕_};
+ghost use Rattle.grammar.specs.Grammar.{call, many, tail, act, _⨾_, _∕_};
 ghost use Rattle.token.specs.Code.{Or, And, Plus, Minus, Star, SlashSlash, Slash, Percent, Comma, Eof, String, Dot, LParen, RParen, LBracket};
 ghost use Rattle.pyhyeon.specs.Machine.{token, node, growing, list, chain};
 ghost use Rattle.pyhyeon.specs.Rules.{E, O, C, S, P, U, F, parameters, entry, more, postfix};
 ghost use Rattle.pyhyeon.specs.Rules as rules;
 ghost use Rattle.pyhyeon.specs.Tables.{primary, pairsOn, setOn, tJoined};
 ghost use Rattle.pyhyeon.specs.Tables as tables;
-ghost use Rattle.leaves.specs.Tokens.{eofAt, symbolAt, textBefore, Tokens};
+ghost use Rattle.leaves.specs.Tokens.{symbolAt};
 ghost use Rattle.leaves.specs.declared.Parsed.the-variants as parsed;
 ghost use Rattle.leaves.specs.Contract.{Rules, Parts, Lists, Ready, Begun};
 ghost use Rattle.ast.specs.Kind as kind;
