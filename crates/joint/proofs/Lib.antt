@@ -3,3 +3,4 @@ pub mod Bounds
 pub mod Ends
 pub mod Loops
 pub mod Passing
+pub mod Promised
