@@ -106,7 +106,8 @@ holdsNode node = true
 holdsNode maybe = true
 holdsNode list = true
 
--- The number in a field of node i is such as the field holds: 0; any; a node written before; that or none.
+-- A test of nodes against the table, for the scripts that are computed. The number in a field of node i is such as the field holds: 0; any; a node
+-- written before; that or none.
 abbrev pub fieldFits : Field → ℕ → ℕ → Bool
 fieldFits unused i x = eqb x 0
 fieldFits word i x = true
@@ -114,7 +115,7 @@ fieldFits node i x = ltb x i
 fieldFits maybe i x = eqb x none || ltb x i
 fieldFits list i x = eqb x none || ltb x i
 
--- node i has fields as its kind says, and none or a later node for its next
+-- node i has fields as its kind says, and none or a greater number for its next
 abbrev pub nodeFits : ℕ → Node → Bool
 nodeFits i n =
     fieldFits (fieldsOf (n .kind) .p) i (n .p) && fieldFits (fieldsOf (n .kind) .q) i (n .q) && fieldFits (fieldsOf (n .kind) .r) i (n .r) && fieldFits (fieldsOf (n .kind) .s) i (n .s)

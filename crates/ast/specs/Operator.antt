@@ -14,7 +14,7 @@ unaryOps = Not ∷ Minus ∷ Plus ∷ []
 abbrev pub binaryOps : List ℕ
 binaryOps = Plus ∷ Minus ∷ Star ∷ Slash ∷ SlashSlash ∷ Percent ∷ EqualEqual ∷ NotEqual ∷ Less ∷ LessEqual ∷ Greater ∷ GreaterEqual ∷ And ∷ Or ∷ []
 
--- the place of a code in a list, counted from 1
+-- the place of a code in a list, counted from 1; it is asked only of codes in the list
 abbrev pub rankIn : List ℕ → ℕ → ℕ
 rankIn [] c = 0
 rankIn (x ∷ l) c = cond (eqb c x) 1 (suc (rankIn l c))

@@ -1,4 +1,4 @@
--- The test of a grammar's tables, which antt computes.
+-- The test of a grammar's tables, which antt computes. It need not be believed: the theorem is shown of every grammar that passes it.
 -- Assumes nothing.
 use Prim.Native.Nat.{ℕ, zero, suc, _+_, min}
 use mathlib.Core.Bool.{Bool, true, false, not, _&&_, _||_}

@@ -8,7 +8,7 @@ use Rattle.grammar.specs.Sets.{sees, only}
 use Rattle.grammar.specs.Grammar.{Part, skip, act, tok, see, call, _⨾_, _∕_, many, tail}
 use Rattle.grammar.specs.Trial.{Machine, St, Out, ok, fail, out, skipP, takeP, seeP, actP, enough}
 
--- A grammar with its tables, which are tested (Check.antt).
+-- A grammar with its tables. `body`, `first` and `opens` define the descent; all but `opens` are tested (Check.antt).
 pub record Plan (Act R : Type 0) : Type 0 where
   pub body : R → Part Act R  -- the rules, with alternatives that begin alike taken together
   pub first : R → List ℕ  -- "A token can begin a rule when some reading of the rule starts with it"

@@ -1,4 +1,5 @@
--- What a part of a rule does to the sorts of the values at hand: a test that antt computes. A machine's values are a stack, the last one first.
+-- What a part of a rule does to the sorts of the values at hand: a test that antt computes, and
+-- that need not be believed. A machine's values are a stack, the last one first.
 -- Assumes nothing.
 use mathlib.Core.Path.{_≡_}
 use mathlib.Core.HLevel.{Discrete}

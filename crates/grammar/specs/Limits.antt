@@ -1,5 +1,6 @@
 -- Limits on the work of the descent: the rules that it opens, and the nodes that its actions write.
--- The prices, and the test of a grammar's tables, which antt computes.
+-- The prices, and the test of a grammar's tables, which antt computes: no statement rests on them but the limits, which are shown of every grammar that
+-- passes. What is to be believed here is `before`, by which T is counted.
 -- Assumes nothing.
 use Prim.Native.Nat.{ℕ, zero, suc, _+_, _*_, _-_, _≤_, min}
 use mathlib.Core.Path.{_≡_}

@@ -1,4 +1,4 @@
--- Further scripts, computed by the checker: 01's likely slips, and every kind of node.
+-- Further scripts, computed by the checker: 01's likely slips, and every kind of node. Their token lists are written out by hand.
 -- Assumes nothing.
 use Prim.Native.Nat.{ℕ, zero, suc, _+_}
 use mathlib.Core.Path.{_≡_, refl}
@@ -47,6 +47,11 @@ record Samples : Type 0 where
       ∷ tok Newline 25 26 ∷ tok Eof 26 26 ∷ [])
       (Accepted (work 14 48 (variable 3 ∷ variable 6 ∷ made kind.Expr 6 7 1 0 0 0 ∷ variable 13 ∷ variable 16 ∷ made kind.Expr 16 17 4 0 0 0 ∷ made kind.Elif 8 18 3 5 0 0 ∷ variable 24
       ∷ made kind.Expr 24 25 7 0 0 0 ∷ made kind.Else 18 26 8 0 0 0 ∷ made kind.If 0 26 0 2 6 9 ∷ made kind.Program 0 26 10 0 0 0 ∷ [])))
+  -- Def, with two names and a trailing comma; a trailing comma of t
+  definitions : Comes (bytes "def f(a, b,): return a,\n")
+      (tok Def 0 3 ∷ a 4 ∷ tok LParen 5 6 ∷ a 6 ∷ tok Comma 7 8 ∷ a 9 ∷ tok Comma 10 11 ∷ tok RParen 11 12 ∷ tok Colon 12 13 ∷ tok Return 14 20 ∷ a 21 ∷ tok Comma 22 23 ∷ tok Newline 23 24 ∷ tok Eof 24 24 ∷ [])
+      (Accepted (work 13 12 (linked 1 (made kind.Name 6 7 6 7 0 0) ∷ made kind.Name 9 10 9 10 0 0 ∷ variable 21 ∷ made kind.Return 14 23 2 0 0 0 ∷ made kind.Def 0 24 4 5 0 3
+      ∷ made kind.Program 0 24 4 0 0 0 ∷ [])))
   -- pairs before a list in braces, `{}` a Dict, t{list}, and `t` as a name
   braces : Comes (bytes "[{a: b}, {c}, {}, t{d}, t]")
       (tok LBracket 0 1 ∷ tok LBrace 1 2 ∷ a 2 ∷ tok Colon 3 4 ∷ a 5 ∷ tok RBrace 6 7 ∷ tok Comma 7 8 ∷ tok LBrace 9 10 ∷ a 10 ∷ tok RBrace 11 12 ∷ tok Comma 12 13 ∷ tok LBrace 14 15
@@ -90,6 +95,7 @@ samples = record {
   target = record { descends = refl; tries = refl; fields = tt };
   blank = record { descends = refl; tries = refl; fields = tt };
   branches = record { descends = refl; tries = refl; fields = tt };
+  definitions = record { descends = refl; tries = refl; fields = tt };
   braces = record { descends = refl; tries = refl; fields = tt };
   tuples = record { descends = refl; tries = refl; fields = tt };
   classes = record { descends = refl; tries = refl; fields = tt };

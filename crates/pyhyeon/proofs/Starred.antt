@@ -35,5 +35,5 @@ starred = record {
 }
 
 pub printed : Printed
-unfolding computed okIf takeFrom takeP seeP actP skipP enough null begins thenD sameD seqD byD loopD tailD manyD listD walk enter ruleD descend symbols perform plain joined first opens start descent
-printed = record { scans = is-list (bytes "a<b<c\n"); tokens = refl; openings = refl; records = refl }
+unfolding computed andThen orElse orStay seqP altP loop manyP skipP okIf takeFrom takeP seeP actP tailP eval rule enough parse null begins thenD sameD seqD byD loopD tailD manyD listD walk enter ruleD descend symbols perform plain joined first opens start descent trial
+printed = record { scans = is-list (bytes "a<b<c\n"); tokens = refl; openings = refl; accepts = refl; tries = refl; records = refl }

@@ -1,5 +1,5 @@
 -- What is kept beside the tokens while a script is read: the number of the next token, the nodes that are written, and the values at hand.
--- A value's nodes are one stretch, and the stretches stand in the order of the values; in place, only the last node of a stretch is changed.
+-- The actions are laid out so that a value's nodes are one stretch, and in place only the last node of a stretch is changed (not proved yet).
 -- Assumes nothing.
 use Prim.Native.Nat.{ℕ, _+_, _-_}
 use mathlib.Core.List.{List, [], _∷_, _++_}
@@ -25,7 +25,8 @@ pub record Kept : Type 0 where
 abbrev pub blank : Kept
 blank = record { at = 0; nodes = []; values = [] }
 
--- the first number of a value; how many signs; the last node of a list in the making; the last operand of a chain
+-- the first number of a value; how many signs; the last node of a list in the making; the last operand of a chain. Of another value they are 0, which no
+-- action asks (proofs/Sorts.antt)
 unfoldable pub number : Value → ℕ
 number (token t) = t
 number (node n) = n

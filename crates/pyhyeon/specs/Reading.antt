@@ -60,7 +60,7 @@ module _ (source : List ℕ) (toks : List Token) where
   abbrev pub here : Kept → ℕ
   here k = tokenAt source toks (k .at) .start
 
-  -- `stuck` never comes (proofs/Language.antt)
+  -- `stuck` never comes (proofs/Agreement.antt, `descent-answers`)
   abbrev pub descended : Answer (machine source toks) → Descended
   descended (done n s) = Accepted (work n (s .kept))
   descended (no n s) = Misfit (here (s .kept)) (work n (s .kept))
@@ -70,7 +70,7 @@ module _ (source : List ℕ) (toks : List Token) where
   unfoldable pub descent : Descended
   descent = descended (descend pyhyeon depth Program 0 start)
 
-  -- `out` never comes (proofs/Language.antt)
+  -- `out` never comes (proofs/Agreement.antt, `trial-answers`)
   abbrev pub tried : Out (machine source toks) → Tried
   tried (ok s) = Fits (s .kept .nodes)
   tried fail = Fails

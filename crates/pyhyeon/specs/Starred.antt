@@ -12,7 +12,7 @@ use Rattle.tokens.specs.Token.{Token}
 use Rattle.lexer.specs.Scan.{scanned, refused, tokenList}
 use Rattle.ast.specs.Kind as kind
 use Rattle.ast.specs.Node.{Node, none, made, words, allFit}
-use Rattle.pyhyeon.specs.Reading.{Work, Descended, Accepted, TooDeep, Misfit, Tried, Fits, Fails, workOf, descent, trial}
+use Rattle.pyhyeon.specs.Reading.{Work, Descended, Accepted, TooDeep, Misfit, Tried, Fits, Fails, numberOf, workOf, descent, trial}
 
 -- a token that is no literal, from one place up to another; an Int
 abbrev pub tok : ℕ → ℕ → ℕ → Token
@@ -25,7 +25,7 @@ int start end n = record { code = Int; start = start; end = end; literal = L.Int
 abbrev pub negative : ℕ → ℕ → ℕ → Token
 negative start end n = record { code = Int; start = start; end = end; literal = L.Int (negsuc n) }
 
--- what the trial says where the descent comes to d
+-- what the trial says where the descent comes to d; 13 is set aside, and no script here comes to it
 abbrev pub trialOf : Descended → Tried
 trialOf (Accepted w) = Fits (w .nodes)
 trialOf (TooDeep place w) = Fails
@@ -102,6 +102,8 @@ pub record Printed : Type 0 where
   -- T and openings of `1 8 6 0 8 7 19 6`
   pub tokens : workOf chained .tokens ≡ 6
   pub openings : workOf chained .openings ≡ 19
+  pub accepts : numberOf chained ≡ 0
+  pub tries : trial (bytes "a<b<c\n") chainTokens ≡ Fits (workOf chained .nodes)
   -- the eight records, word by word
   pub records : map words (workOf chained .nodes) ≡
       (23 ∷ 0 ∷ 1 ∷ none ∷ 0 ∷ 1 ∷ 0 ∷ 0 ∷ [])
