@@ -66,7 +66,7 @@ pub map-length : {A B : Type 0} (f : A → B) (l : List A) → length (map f l) 
 map-length f [] = refl
 map-length f (x ∷ l) = ap suc (map-length f l)
 
--- 14 stands at the first token that does not fit. The descent refuses the tokens w and then v at a token of w, as more are left than v has: then no
+-- 14 is never too early. The descent refuses the tokens w and then v at a token of w, as more are left than v has: then no
 -- script whose tokens begin as w does is accepted.
 pub first-misfit : (source source′ : List ℕ) (w v w′ v′ : List Token) (m : ℕ) (s : St (machine source (w ++ v))) → descend pyhyeon depth Program 0 (start source (w ++ v)) ≡ no m s →
     length v < length (s .rest) → symbols source w ≡ symbols source′ w′ → trial source′ (w′ ++ v′) ≡ Fails
