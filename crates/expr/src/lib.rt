@@ -18,7 +18,7 @@ ghost use Rattle.pyhyeon.specs.Tables.{primary, pairsOn, setOn, tJoined};
 ghost use Rattle.pyhyeon.specs.Tables as tables;
 ghost use Rattle.leaves.specs.Tokens.{symbolAt};
 ghost use Rattle.leaves.specs.declared.Parsed.the-variants as parsed;
-ghost use Rattle.leaves.specs.Contract.{Rules, Parts, Lists, Ready, Begun};
+ghost use Rattle.leaves.specs.Contract.{a-node, a-list, Rules, Parts, Lists, Ready, Begun};
 ghost use Rattle.ast.specs.Kind as kind;
 ghost use Rattle.pyhyeon.specs.Action.{empty, list-done};
 ghost use Rattle.expr.specs.Parts.{term, chained, compares, others, name, entries, closes, enclosed, lambdaOn, lambdaBody, teeOn, valued, pairsRest, tupleRest, roundOn, callOn, indexOn, tOn};
@@ -32,7 +32,7 @@ use token::TokenNumber;
 pub fn rule_e(src: &[u8], toks: &[u32], tree: &mut [u32], left: u32, s: State) -> Parsed
     requires { ⌜ Ready (now src) (now toks) (now tree) s 3 ⌝ }
     requires { ⌜ Begun (now src) (now toks) s E ⌝ }
-    ensures { λ r. ⌜ Rules (now (src .entry)) (now (toks .entry)) left E s (now (tree .entry)) r (now (tree .exit)) ⌝ }
+    ensures { λ r. ⌜ Rules (now (src .entry)) (now (toks .entry)) left E a-node s (now (tree .entry)) r (now (tree .exit)) ⌝ }
 {
     let at = s.at;
     if left == 0 {
@@ -64,7 +64,7 @@ pub fn rule_e(src: &[u8], toks: &[u32], tree: &mut [u32], left: u32, s: State) -
 // An E, if the token there can begin one.
 pub fn enter(src: &[u8], toks: &[u32], tree: &mut [u32], left: u32, s: State) -> Parsed
     requires { ⌜ Ready (now src) (now toks) (now tree) s 3 ⌝ }
-    ensures { λ r. ⌜ Parts (now (src .entry)) (now (toks .entry)) left (call E) [] node s (now (tree .entry)) r (now (tree .exit)) ⌝ }
+    ensures { λ r. ⌜ Parts (now (src .entry)) (now (toks .entry)) left (call E) [] a-node s (now (tree .entry)) r (now (tree .exit)) ⌝ }
 {
     let at = s.at;
     if leaves::begins_e(leaves::symbol_at(src, toks, at)) {
@@ -85,7 +85,7 @@ fn lambda(
 ) -> Parsed
     requires { ⌜ Ready (now src) (now toks) (now tree) s 1 ⌝ }
     requires { ⌜ opener .0 < s .at .0 ⌝ }
-    ensures { λ r. ⌜ Parts (now (src .entry)) (now (toks .entry)) left lambdaOn (token (opener .0) ∷ []) node s (now (tree .entry)) r (now (tree .exit)) ⌝ }
+    ensures { λ r. ⌜ Parts (now (src .entry)) (now (toks .entry)) left lambdaOn (token (opener .0) ∷ []) a-node s (now (tree .entry)) r (now (tree .exit)) ⌝ }
 {
     let heads = names(src, toks, tree, s);
     let first = heads.0;
@@ -117,7 +117,7 @@ fn body(
 ) -> Parsed
     requires { ⌜ Ready (now src) (now toks) (now tree) s 1 ⌝ }
     requires { ⌜ opener .0 < s .at .0 ⌝ }
-    ensures { λ r. ⌜ Parts (now (src .entry)) (now (toks .entry)) left lambdaBody (list (first .0) ∷ token (opener .0) ∷ []) node s (now (tree .entry)) r (now (tree .exit)) ⌝ }
+    ensures { λ r. ⌜ Parts (now (src .entry)) (now (toks .entry)) left lambdaBody (list (first .0) ∷ token (opener .0) ∷ []) a-node s (now (tree .entry)) r (now (tree .exit)) ⌝ }
 {
     let inner = enter(src, toks, tree, left, s);
     match inner {
@@ -135,7 +135,7 @@ fn body(
 fn rule_o(src: &[u8], toks: &[u32], tree: &mut [u32], left: u32, s: State) -> Parsed
     requires { ⌜ Ready (now src) (now toks) (now tree) s 4 ⌝ }
     requires { ⌜ Begun (now src) (now toks) s O ⌝ }
-    ensures { λ r. ⌜ Rules (now (src .entry)) (now (toks .entry)) left O s (now (tree .entry)) r (now (tree .exit)) ⌝ }
+    ensures { λ r. ⌜ Rules (now (src .entry)) (now (toks .entry)) left O a-node s (now (tree .entry)) r (now (tree .exit)) ⌝ }
 {
     let at = s.at;
     let opened = s.opened + 1;
@@ -162,7 +162,7 @@ fn more_o(
 ) -> Parsed
     requires { ⌜ Ready (now src) (now toks) (now tree) s 1 ⌝ }
     requires { ⌜ first .0 < s .nodes ⌝ }
-    ensures { λ r. ⌜ Parts (now (src .entry)) (now (toks .entry)) left (many (term rules.A (Or ∷ []))) (node (first .0) ∷ []) node s (now (tree .entry)) r (now (tree .exit)) ⌝ }
+    ensures { λ r. ⌜ Parts (now (src .entry)) (now (toks .entry)) left (many (term rules.A (Or ∷ []))) (node (first .0) ∷ []) a-node s (now (tree .entry)) r (now (tree .exit)) ⌝ }
 {
     let mut l = first;
     let mut st = s;
@@ -200,7 +200,7 @@ fn more_o(
 fn rule_a(src: &[u8], toks: &[u32], tree: &mut [u32], left: u32, s: State) -> Parsed
     requires { ⌜ Ready (now src) (now toks) (now tree) s 5 ⌝ }
     requires { ⌜ Begun (now src) (now toks) s rules.A ⌝ }
-    ensures { λ r. ⌜ Rules (now (src .entry)) (now (toks .entry)) left rules.A s (now (tree .entry)) r (now (tree .exit)) ⌝ }
+    ensures { λ r. ⌜ Rules (now (src .entry)) (now (toks .entry)) left rules.A a-node s (now (tree .entry)) r (now (tree .exit)) ⌝ }
 {
     let at = s.at;
     let opened = s.opened + 1;
@@ -227,7 +227,7 @@ fn more_a(
 ) -> Parsed
     requires { ⌜ Ready (now src) (now toks) (now tree) s 1 ⌝ }
     requires { ⌜ first .0 < s .nodes ⌝ }
-    ensures { λ r. ⌜ Parts (now (src .entry)) (now (toks .entry)) left (many (term C (And ∷ []))) (node (first .0) ∷ []) node s (now (tree .entry)) r (now (tree .exit)) ⌝ }
+    ensures { λ r. ⌜ Parts (now (src .entry)) (now (toks .entry)) left (many (term C (And ∷ []))) (node (first .0) ∷ []) a-node s (now (tree .entry)) r (now (tree .exit)) ⌝ }
 {
     let mut l = first;
     let mut st = s;
@@ -265,7 +265,7 @@ fn more_a(
 fn rule_c(src: &[u8], toks: &[u32], tree: &mut [u32], left: u32, s: State) -> Parsed
     requires { ⌜ Ready (now src) (now toks) (now tree) s 6 ⌝ }
     requires { ⌜ Begun (now src) (now toks) s C ⌝ }
-    ensures { λ r. ⌜ Rules (now (src .entry)) (now (toks .entry)) left C s (now (tree .entry)) r (now (tree .exit)) ⌝ }
+    ensures { λ r. ⌜ Rules (now (src .entry)) (now (toks .entry)) left C a-node s (now (tree .entry)) r (now (tree .exit)) ⌝ }
 {
     let at = s.at;
     let opened = s.opened + 1;
@@ -308,7 +308,7 @@ fn cmp(
 ) -> Parsed
     requires { ⌜ Ready (now src) (now toks) (now tree) s 1 ⌝ }
     requires { ⌜ (op .0 < s .at .0) × (first .0 < s .nodes) ⌝ }
-    ensures { λ r. ⌜ Parts (now (src .entry)) (now (toks .entry)) left compares (token (op .0) ∷ node (first .0) ∷ []) node s (now (tree .entry)) r (now (tree .exit)) ⌝ }
+    ensures { λ r. ⌜ Parts (now (src .entry)) (now (toks .entry)) left compares (token (op .0) ∷ node (first .0) ∷ []) a-node s (now (tree .entry)) r (now (tree .exit)) ⌝ }
 {
     let at = s.at;
     if leaves::begins_u(leaves::symbol_at(src, toks, at)) {
@@ -339,7 +339,7 @@ fn cmp_more(
 ) -> Parsed
     requires { ⌜ Ready (now src) (now toks) (now tree) s 1 ⌝ }
     requires { ⌜ (first .0 < s .nodes) × (newest .0 < s .nodes) ⌝ }
-    ensures { λ r. ⌜ Parts (now (src .entry)) (now (toks .entry)) left chained (chain (first .0) (newest .0) ∷ []) node s (now (tree .entry)) r (now (tree .exit)) ⌝ }
+    ensures { λ r. ⌜ Parts (now (src .entry)) (now (toks .entry)) left chained (chain (first .0) (newest .0) ∷ []) a-node s (now (tree .entry)) r (now (tree .exit)) ⌝ }
 {
     let mut l = first;
     let mut x = newest;
@@ -382,7 +382,7 @@ fn cmp_more(
 fn rule_s(src: &[u8], toks: &[u32], tree: &mut [u32], left: u32, s: State) -> Parsed
     requires { ⌜ Ready (now src) (now toks) (now tree) s 7 ⌝ }
     requires { ⌜ Begun (now src) (now toks) s S ⌝ }
-    ensures { λ r. ⌜ Rules (now (src .entry)) (now (toks .entry)) left S s (now (tree .entry)) r (now (tree .exit)) ⌝ }
+    ensures { λ r. ⌜ Rules (now (src .entry)) (now (toks .entry)) left S a-node s (now (tree .entry)) r (now (tree .exit)) ⌝ }
 {
     let at = s.at;
     let opened = s.opened + 1;
@@ -409,7 +409,7 @@ fn more_s(
 ) -> Parsed
     requires { ⌜ Ready (now src) (now toks) (now tree) s 1 ⌝ }
     requires { ⌜ first .0 < s .nodes ⌝ }
-    ensures { λ r. ⌜ Parts (now (src .entry)) (now (toks .entry)) left (many (term P (Plus ∷ Minus ∷ []))) (node (first .0) ∷ []) node s (now (tree .entry)) r (now (tree .exit)) ⌝ }
+    ensures { λ r. ⌜ Parts (now (src .entry)) (now (toks .entry)) left (many (term P (Plus ∷ Minus ∷ []))) (node (first .0) ∷ []) a-node s (now (tree .entry)) r (now (tree .exit)) ⌝ }
 {
     let mut l = first;
     let mut st = s;
@@ -447,7 +447,7 @@ fn more_s(
 fn rule_p(src: &[u8], toks: &[u32], tree: &mut [u32], left: u32, s: State) -> Parsed
     requires { ⌜ Ready (now src) (now toks) (now tree) s 8 ⌝ }
     requires { ⌜ Begun (now src) (now toks) s P ⌝ }
-    ensures { λ r. ⌜ Rules (now (src .entry)) (now (toks .entry)) left P s (now (tree .entry)) r (now (tree .exit)) ⌝ }
+    ensures { λ r. ⌜ Rules (now (src .entry)) (now (toks .entry)) left P a-node s (now (tree .entry)) r (now (tree .exit)) ⌝ }
 {
     let at = s.at;
     let opened = s.opened + 1;
@@ -474,7 +474,7 @@ fn more_p(
 ) -> Parsed
     requires { ⌜ Ready (now src) (now toks) (now tree) s 1 ⌝ }
     requires { ⌜ first .0 < s .nodes ⌝ }
-    ensures { λ r. ⌜ Parts (now (src .entry)) (now (toks .entry)) left (many (term U (Star ∷ SlashSlash ∷ Slash ∷ Percent ∷ []))) (node (first .0) ∷ []) node s (now (tree .entry)) r (now (tree .exit)) ⌝ }
+    ensures { λ r. ⌜ Parts (now (src .entry)) (now (toks .entry)) left (many (term U (Star ∷ SlashSlash ∷ Slash ∷ Percent ∷ []))) (node (first .0) ∷ []) a-node s (now (tree .entry)) r (now (tree .exit)) ⌝ }
 {
     let mut l = first;
     let mut st = s;
@@ -512,7 +512,7 @@ fn more_p(
 fn rule_u(src: &[u8], toks: &[u32], tree: &mut [u32], left: u32, s: State) -> Parsed
     requires { ⌜ Ready (now src) (now toks) (now tree) s 9 ⌝ }
     requires { ⌜ Begun (now src) (now toks) s U ⌝ }
-    ensures { λ r. ⌜ Rules (now (src .entry)) (now (toks .entry)) left U s (now (tree .entry)) r (now (tree .exit)) ⌝ }
+    ensures { λ r. ⌜ Rules (now (src .entry)) (now (toks .entry)) left U a-node s (now (tree .entry)) r (now (tree .exit)) ⌝ }
 {
     let first = s.at;
     let opened = s.opened + 1;
@@ -543,7 +543,7 @@ fn rule_u(src: &[u8], toks: &[u32], tree: &mut [u32], left: u32, s: State) -> Pa
 fn rule_f(src: &[u8], toks: &[u32], tree: &mut [u32], left: u32, s: State) -> Parsed
     requires { ⌜ Ready (now src) (now toks) (now tree) s 10 ⌝ }
     requires { ⌜ Begun (now src) (now toks) s F ⌝ }
-    ensures { λ r. ⌜ Rules (now (src .entry)) (now (toks .entry)) left F s (now (tree .entry)) r (now (tree .exit)) ⌝ }
+    ensures { λ r. ⌜ Rules (now (src .entry)) (now (toks .entry)) left F a-node s (now (tree .entry)) r (now (tree .exit)) ⌝ }
 {
     let at = s.at;
     let opened = s.opened + 1;
@@ -564,7 +564,7 @@ fn rule_f(src: &[u8], toks: &[u32], tree: &mut [u32], left: u32, s: State) -> Pa
 fn head(src: &[u8], toks: &[u32], tree: &mut [u32], left: u32, s: State) -> Parsed
     requires { ⌜ Ready (now src) (now toks) (now tree) s 11 ⌝ }
     requires { ⌜ Begun (now src) (now toks) s F ⌝ }
-    ensures { λ r. ⌜ Parts (now (src .entry)) (now (toks .entry)) left primary [] node s (now (tree .entry)) r (now (tree .exit)) ⌝ }
+    ensures { λ r. ⌜ Parts (now (src .entry)) (now (toks .entry)) left primary [] a-node s (now (tree .entry)) r (now (tree .exit)) ⌝ }
 {
     let at = s.at;
     let t = at.0 + 1;
@@ -605,7 +605,7 @@ fn tee(
 ) -> Parsed
     requires { ⌜ Ready (now src) (now toks) (now tree) s 1 ⌝ }
     requires { ⌜ opener .0 + 1 ≡ s .at .0 ⌝ }
-    ensures { λ r. ⌜ Parts (now (src .entry)) (now (toks .entry)) left teeOn [] node s (now (tree .entry)) r (now (tree .exit)) ⌝ }
+    ensures { λ r. ⌜ Parts (now (src .entry)) (now (toks .entry)) left teeOn [] a-node s (now (tree .entry)) r (now (tree .exit)) ⌝ }
 {
     let at = s.at;
     if leaves::is_symbol(leaves::symbol_at(src, toks, at), token::LBRACE) {
@@ -647,7 +647,7 @@ fn shown(
 ) -> Parsed
     requires { ⌜ Ready (now src) (now toks) (now tree) s 1 ⌝ }
     requires { ⌜ (opener .0 < s .at .0) × (mem Eof (close ∷ []) ≡ false) × (mem String (close ∷ []) ≡ false) ⌝ }
-    ensures { λ r. ⌜ Parts (now (src .entry)) (now (toks .entry)) left (enclosed close kind) (token (opener .0) ∷ []) node s (now (tree .entry)) r (now (tree .exit)) ⌝ }
+    ensures { λ r. ⌜ Parts (now (src .entry)) (now (toks .entry)) left (enclosed close kind) (token (opener .0) ∷ []) a-node s (now (tree .entry)) r (now (tree .exit)) ⌝ }
 {
     let inner = items(src, toks, tree, left, s);
     match inner {
@@ -680,7 +680,7 @@ fn shut(
 ) -> Parsed
     requires { ⌜ Ready (now src) (now toks) (now tree) s 1 ⌝ }
     requires { ⌜ (opener .0 < s .at .0) × (mem Eof (close ∷ []) ≡ false) × (mem String (close ∷ []) ≡ false) ⌝ }
-    ensures { λ r. ⌜ Parts (now (src .entry)) (now (toks .entry)) left (closes close kind) (list (first .0) ∷ token (opener .0) ∷ []) node s (now (tree .entry)) r (now (tree .exit)) ⌝ }
+    ensures { λ r. ⌜ Parts (now (src .entry)) (now (toks .entry)) left (closes close kind) (list (first .0) ∷ token (opener .0) ∷ []) a-node s (now (tree .entry)) r (now (tree .exit)) ⌝ }
 {
     let at = s.at;
     if leaves::is_symbol(leaves::symbol_at(src, toks, at), close) {
@@ -703,7 +703,7 @@ fn shut(
 // A list of E, which may be empty: its first node, or none.
 fn items(src: &[u8], toks: &[u32], tree: &mut [u32], left: u32, s: State) -> Parsed
     requires { ⌜ Ready (now src) (now toks) (now tree) s 1 ⌝ }
-    ensures { λ r. ⌜ Parts (now (src .entry)) (now (toks .entry)) left rules.list [] list s (now (tree .entry)) r (now (tree .exit)) ⌝ }
+    ensures { λ r. ⌜ Parts (now (src .entry)) (now (toks .entry)) left rules.list [] a-list s (now (tree .entry)) r (now (tree .exit)) ⌝ }
 {
     let at = s.at;
     if leaves::begins_e(leaves::symbol_at(src, toks, at)) {
@@ -780,7 +780,7 @@ fn braces(
 ) -> Parsed
     requires { ⌜ Ready (now src) (now toks) (now tree) s 1 ⌝ }
     requires { ⌜ opener .0 < s .at .0 ⌝ }
-    ensures { λ r. ⌜ Parts (now (src .entry)) (now (toks .entry)) left tables.braces (token (opener .0) ∷ []) node s (now (tree .entry)) r (now (tree .exit)) ⌝ }
+    ensures { λ r. ⌜ Parts (now (src .entry)) (now (toks .entry)) left tables.braces (token (opener .0) ∷ []) a-node s (now (tree .entry)) r (now (tree .exit)) ⌝ }
 {
     let at = s.at;
     if leaves::is_symbol(leaves::symbol_at(src, toks, at), token::RBRACE) {
@@ -816,7 +816,7 @@ fn brace(
 ) -> Parsed
     requires { ⌜ Ready (now src) (now toks) (now tree) s 1 ⌝ }
     requires { ⌜ (opener .0 < s .at .0) × (first .0 < s .nodes) ⌝ }
-    ensures { λ r. ⌜ Parts (now (src .entry)) (now (toks .entry)) left (pairsOn ∕ setOn) (node (first .0) ∷ token (opener .0) ∷ []) node s (now (tree .entry)) r (now (tree .exit)) ⌝ }
+    ensures { λ r. ⌜ Parts (now (src .entry)) (now (toks .entry)) left (pairsOn ∕ setOn) (node (first .0) ∷ token (opener .0) ∷ []) a-node s (now (tree .entry)) r (now (tree .exit)) ⌝ }
 {
     let at = s.at;
     if leaves::is_symbol(leaves::symbol_at(src, toks, at), token::COLON) {
@@ -844,7 +844,7 @@ fn set(
 ) -> Parsed
     requires { ⌜ Ready (now src) (now toks) (now tree) s 1 ⌝ }
     requires { ⌜ (opener .0 < s .at .0) × (first .0 < s .nodes) ⌝ }
-    ensures { λ r. ⌜ Parts (now (src .entry)) (now (toks .entry)) left setOn (node (first .0) ∷ token (opener .0) ∷ []) node s (now (tree .entry)) r (now (tree .exit)) ⌝ }
+    ensures { λ r. ⌜ Parts (now (src .entry)) (now (toks .entry)) left setOn (node (first .0) ∷ token (opener .0) ∷ []) a-node s (now (tree .entry)) r (now (tree .exit)) ⌝ }
 {
     let inner = rest(src, toks, tree, left, first, first, s);
     match inner {
@@ -875,7 +875,7 @@ fn pairs(
 ) -> Parsed
     requires { ⌜ Ready (now src) (now toks) (now tree) s 1 ⌝ }
     requires { ⌜ (opener .0 < s .at .0) × (key .0 < s .nodes) ⌝ }
-    ensures { λ r. ⌜ Parts (now (src .entry)) (now (toks .entry)) left pairsRest (node (key .0) ∷ token (opener .0) ∷ []) node s (now (tree .entry)) r (now (tree .exit)) ⌝ }
+    ensures { λ r. ⌜ Parts (now (src .entry)) (now (toks .entry)) left pairsRest (node (key .0) ∷ token (opener .0) ∷ []) a-node s (now (tree .entry)) r (now (tree .exit)) ⌝ }
 {
     let inner = value(src, toks, tree, left, key, s);
     match inner {
@@ -904,7 +904,7 @@ fn pairs(
 fn value(src: &[u8], toks: &[u32], tree: &mut [u32], left: u32, key: NodeNumber, s: State) -> Parsed
     requires { ⌜ Ready (now src) (now toks) (now tree) s 1 ⌝ }
     requires { ⌜ key .0 < s .nodes ⌝ }
-    ensures { λ r. ⌜ Parts (now (src .entry)) (now (toks .entry)) left valued (node (key .0) ∷ []) node s (now (tree .entry)) r (now (tree .exit)) ⌝ }
+    ensures { λ r. ⌜ Parts (now (src .entry)) (now (toks .entry)) left valued (node (key .0) ∷ []) a-node s (now (tree .entry)) r (now (tree .exit)) ⌝ }
 {
     let inner = enter(src, toks, tree, left, s);
     match inner {
@@ -922,7 +922,7 @@ fn value(src: &[u8], toks: &[u32], tree: &mut [u32], left: u32, key: NodeNumber,
 fn item(src: &[u8], toks: &[u32], tree: &mut [u32], left: u32, s: State) -> Parsed
     requires { ⌜ Ready (now src) (now toks) (now tree) s 1 ⌝ }
     requires { ⌜ Begun (now src) (now toks) s E ⌝ }
-    ensures { λ r. ⌜ Parts (now (src .entry)) (now (toks .entry)) left entry [] node s (now (tree .entry)) r (now (tree .exit)) ⌝ }
+    ensures { λ r. ⌜ Parts (now (src .entry)) (now (toks .entry)) left entry [] a-node s (now (tree .entry)) r (now (tree .exit)) ⌝ }
 {
     let inner = rule_e(src, toks, tree, left, s);
     match inner {
@@ -1002,7 +1002,7 @@ fn round(
 ) -> Parsed
     requires { ⌜ Ready (now src) (now toks) (now tree) s 1 ⌝ }
     requires { ⌜ opener .0 < s .at .0 ⌝ }
-    ensures { λ r. ⌜ Parts (now (src .entry)) (now (toks .entry)) left tables.round (token (opener .0) ∷ []) node s (now (tree .entry)) r (now (tree .exit)) ⌝ }
+    ensures { λ r. ⌜ Parts (now (src .entry)) (now (toks .entry)) left tables.round (token (opener .0) ∷ []) a-node s (now (tree .entry)) r (now (tree .exit)) ⌝ }
 {
     let at = s.at;
     if leaves::begins_e(leaves::symbol_at(src, toks, at)) {
@@ -1036,7 +1036,7 @@ fn unit(
 ) -> Parsed
     requires { ⌜ Ready (now src) (now toks) (now tree) s 1 ⌝ }
     requires { ⌜ opener .0 < s .at .0 ⌝ }
-    ensures { λ r. ⌜ Parts (now (src .entry)) (now (toks .entry)) left (rules.tk RParen ⨾ act (empty kind.Tuple)) (token (opener .0) ∷ []) node s (now (tree .entry)) r (now (tree .exit)) ⌝ }
+    ensures { λ r. ⌜ Parts (now (src .entry)) (now (toks .entry)) left (rules.tk RParen ⨾ act (empty kind.Tuple)) (token (opener .0) ∷ []) a-node s (now (tree .entry)) r (now (tree .exit)) ⌝ }
 {
     let at = s.at;
     if leaves::is_symbol(leaves::symbol_at(src, toks, at), token::RPAREN) {
@@ -1068,7 +1068,7 @@ fn paren(
 ) -> Parsed
     requires { ⌜ Ready (now src) (now toks) (now tree) s 1 ⌝ }
     requires { ⌜ (opener .0 < s .at .0) × (first .0 < s .nodes) ⌝ }
-    ensures { λ r. ⌜ Parts (now (src .entry)) (now (toks .entry)) left roundOn (node (first .0) ∷ token (opener .0) ∷ []) node s (now (tree .entry)) r (now (tree .exit)) ⌝ }
+    ensures { λ r. ⌜ Parts (now (src .entry)) (now (toks .entry)) left roundOn (node (first .0) ∷ token (opener .0) ∷ []) a-node s (now (tree .entry)) r (now (tree .exit)) ⌝ }
 {
     let at = s.at;
     let symbol = leaves::symbol_at(src, toks, at);
@@ -1108,7 +1108,7 @@ fn tuple(
 ) -> Parsed
     requires { ⌜ Ready (now src) (now toks) (now tree) s 1 ⌝ }
     requires { ⌜ (opener .0 < s .at .0) × (first .0 < s .nodes) ⌝ }
-    ensures { λ r. ⌜ Parts (now (src .entry)) (now (toks .entry)) left tupleRest (node (first .0) ∷ token (opener .0) ∷ []) node s (now (tree .entry)) r (now (tree .exit)) ⌝ }
+    ensures { λ r. ⌜ Parts (now (src .entry)) (now (toks .entry)) left tupleRest (node (first .0) ∷ token (opener .0) ∷ []) a-node s (now (tree .entry)) r (now (tree .exit)) ⌝ }
 {
     let at = s.at;
     if leaves::begins_e(leaves::symbol_at(src, toks, at)) {
@@ -1160,7 +1160,7 @@ fn posts(
 ) -> Parsed
     requires { ⌜ Ready (now src) (now toks) (now tree) s 2 ⌝ }
     requires { ⌜ first .0 < s .nodes ⌝ }
-    ensures { λ r. ⌜ Parts (now (src .entry)) (now (toks .entry)) left (many postfix) (node (first .0) ∷ []) node s (now (tree .entry)) r (now (tree .exit)) ⌝ }
+    ensures { λ r. ⌜ Parts (now (src .entry)) (now (toks .entry)) left (many postfix) (node (first .0) ∷ []) a-node s (now (tree .entry)) r (now (tree .exit)) ⌝ }
 {
     let mut n = first;
     let mut st = s;
@@ -1185,7 +1185,7 @@ fn posts(
 fn post(src: &[u8], toks: &[u32], tree: &mut [u32], left: u32, n: NodeNumber, s: State) -> Parsed
     requires { ⌜ Ready (now src) (now toks) (now tree) s 2 ⌝ }
     requires { ⌜ (n .0 < s .nodes) × (mem (symbolAt (now src) (now toks) (s .at .0)) (Dot ∷ LParen ∷ LBracket ∷ []) ≡ true) ⌝ }
-    ensures { λ r. ⌜ Parts (now (src .entry)) (now (toks .entry)) left postfix (node (n .0) ∷ []) node s (now (tree .entry)) r (now (tree .exit)) ⌝ }
+    ensures { λ r. ⌜ Parts (now (src .entry)) (now (toks .entry)) left postfix (node (n .0) ∷ []) a-node s (now (tree .entry)) r (now (tree .exit)) ⌝ }
 {
     let at = s.at;
     let t = at.0 + 1;
@@ -1223,7 +1223,7 @@ fn post(src: &[u8], toks: &[u32], tree: &mut [u32], left: u32, n: NodeNumber, s:
 fn args(src: &[u8], toks: &[u32], tree: &mut [u32], left: u32, n: NodeNumber, s: State) -> Parsed
     requires { ⌜ Ready (now src) (now toks) (now tree) s 1 ⌝ }
     requires { ⌜ n .0 < s .nodes ⌝ }
-    ensures { λ r. ⌜ Parts (now (src .entry)) (now (toks .entry)) left callOn (node (n .0) ∷ []) node s (now (tree .entry)) r (now (tree .exit)) ⌝ }
+    ensures { λ r. ⌜ Parts (now (src .entry)) (now (toks .entry)) left callOn (node (n .0) ∷ []) a-node s (now (tree .entry)) r (now (tree .exit)) ⌝ }
 {
     let inner = items(src, toks, tree, left, s);
     match inner {
@@ -1253,7 +1253,7 @@ fn args(src: &[u8], toks: &[u32], tree: &mut [u32], left: u32, n: NodeNumber, s:
 fn index(src: &[u8], toks: &[u32], tree: &mut [u32], left: u32, n: NodeNumber, s: State) -> Parsed
     requires { ⌜ Ready (now src) (now toks) (now tree) s 1 ⌝ }
     requires { ⌜ n .0 < s .nodes ⌝ }
-    ensures { λ r. ⌜ Parts (now (src .entry)) (now (toks .entry)) left indexOn (node (n .0) ∷ []) node s (now (tree .entry)) r (now (tree .exit)) ⌝ }
+    ensures { λ r. ⌜ Parts (now (src .entry)) (now (toks .entry)) left indexOn (node (n .0) ∷ []) a-node s (now (tree .entry)) r (now (tree .exit)) ⌝ }
 {
     let inner = enter(src, toks, tree, left, s);
     match inner {
@@ -1282,7 +1282,7 @@ fn index(src: &[u8], toks: &[u32], tree: &mut [u32], left: u32, n: NodeNumber, s
 // A list of names, which may be empty.
 pub fn names(src: &[u8], toks: &[u32], tree: &mut [u32], s: State) -> Added
     requires { ⌜ Ready (now src) (now toks) (now tree) s 1 ⌝ }
-    ensures { λ r. ⌜ ((room : ℕ) → Parts (now (src .entry)) (now (toks .entry)) room parameters [] list s (now (tree .entry)) (parsed.Node (r .0) (r .1)) (now (tree .exit))) ⌝ }
+    ensures { λ r. ⌜ ((room : ℕ) → Parts (now (src .entry)) (now (toks .entry)) room parameters [] a-list s (now (tree .entry)) (parsed.Node (r .0) (r .1)) (now (tree .exit))) ⌝ }
 {
     let at = s.at;
     if leaves::is_name(leaves::symbol_at(src, toks, at)) {
@@ -1306,7 +1306,7 @@ pub fn names(src: &[u8], toks: &[u32], tree: &mut [u32], s: State) -> Added
 fn names_rest(src: &[u8], toks: &[u32], tree: &mut [u32], first: NodeNumber, s: State) -> Added
     requires { ⌜ Ready (now src) (now toks) (now tree) s 1 ⌝ }
     requires { ⌜ first .0 < s .nodes ⌝ }
-    ensures { λ r. ⌜ ((room : ℕ) → Parts (now (src .entry)) (now (toks .entry)) room (tail Comma (more name) ⨾ act list-done) (growing (first .0) (first .0) ∷ []) list s (now (tree .entry)) (parsed.Node (r .0) (r .1)) (now (tree .exit))) ⌝ }
+    ensures { λ r. ⌜ ((room : ℕ) → Parts (now (src .entry)) (now (toks .entry)) room (tail Comma (more name) ⨾ act list-done) (growing (first .0) (first .0) ∷ []) a-list s (now (tree .entry)) (parsed.Node (r .0) (r .1)) (now (tree .exit))) ⌝ }
 {
     let mut last = first;
     let mut st = s;
@@ -1347,7 +1347,7 @@ fn names_rest(src: &[u8], toks: &[u32], tree: &mut [u32], first: NodeNumber, s: 
 // t: E separated by commas. One E alone stays that E; more make a Tuple.
 pub fn comma_list(src: &[u8], toks: &[u32], tree: &mut [u32], left: u32, s: State) -> Parsed
     requires { ⌜ Ready (now src) (now toks) (now tree) s 3 ⌝ }
-    ensures { λ r. ⌜ Parts (now (src .entry)) (now (toks .entry)) left tJoined [] node s (now (tree .entry)) r (now (tree .exit)) ⌝ }
+    ensures { λ r. ⌜ Parts (now (src .entry)) (now (toks .entry)) left tJoined [] a-node s (now (tree .entry)) r (now (tree .exit)) ⌝ }
 {
     let inner = enter(src, toks, tree, left, s);
     match inner {
@@ -1381,7 +1381,7 @@ fn comma_rest(
 ) -> Parsed
     requires { ⌜ Ready (now src) (now toks) (now tree) s 1 ⌝ }
     requires { ⌜ first .0 < s .nodes ⌝ }
-    ensures { λ r. ⌜ Parts (now (src .entry)) (now (toks .entry)) left tOn (node (first .0) ∷ []) node s (now (tree .entry)) r (now (tree .exit)) ⌝ }
+    ensures { λ r. ⌜ Parts (now (src .entry)) (now (toks .entry)) left tOn (node (first .0) ∷ []) a-node s (now (tree .entry)) r (now (tree .exit)) ⌝ }
 {
     let at = s.at;
     if leaves::begins_e(leaves::symbol_at(src, toks, at)) {

@@ -34,7 +34,7 @@ use Rattle.leaves.specs.declared.State.{State}
 use Rattle.leaves.specs.declared.Parsed.{Parsed}
 use Rattle.leaves.specs.declared.Parsed.the-variants.{Node, Refused}
 use Rattle.leaves.specs.Tokens.{eofAt, textBefore, tokensOf, symbolAt, Tokens}
-use Rattle.leaves.specs.Contract.{state, Told, Rules, Comes, Parts}
+use Rattle.leaves.specs.Contract.{state, Shape, a-node, a-list, Told, Rules, Comes, Parts}
 use Rattle.leaves.proofs.Tokens.{sees-at, before-eof}
 use Rattle.joint.proofs.Chain.{is-node, is-used}
 
@@ -58,7 +58,7 @@ module _ (src toks : List ℕ) (w : Tokens src toks) where
   left i h = before-drop Eof i (symbols src (tokensOf src toks)) (rw (w .ends) h) ∙ w .ends
 
   after : (r : Rule) (room : ℕ) (s : State) (tr : List ℕ) {a : Parsed} {tr′ : List ℕ} {n : NodeNumber} {s′ : State} → Spares r → s .at .0 < eofAt toks →
-      Told src toks node [] (descend pyhyeon room r (s .opened) (state src toks s tr [])) a tr′ → a ≡ Node n s′ → Grown src toks (rank r + 1) s n s′
+      Told src toks a-node [] (descend pyhyeon room r (s .opened) (state src toks s tr [])) a tr′ → a ≡ Node n s′ → Grown src toks (rank r + 1) s n s′
   unfolding state meter counted owed count Held Fit
   after r room s tr {tr′ = tr′} {n = n} {s′ = s′} (spares l g k) h told e =
       let x : descend pyhyeon room r (s .opened) (state src toks s tr []) ≡ done (s′ .opened) (state src toks s′ tr′ (node (n .0) ∷ [])) = is-node told e in
@@ -77,12 +77,12 @@ module _ (src toks : List ℕ) (w : Tokens src toks) where
       }
 
   pub after-rule : {r : Rule} {room : ℕ} {s : State} {tr : List ℕ} {a : Parsed} {tr′ : List ℕ} {n : NodeNumber} {s′ : State} → Spares r → s .at .0 < eofAt toks →
-      Rules src toks room r s tr a tr′ → a ≡ Node n s′ → Grown src toks (rank r + 1) s n s′
+      Rules src toks room r a-node s tr a tr′ → a ≡ Node n s′ → Grown src toks (rank r + 1) s n s′
   after-rule {r} {room} {s} {tr} p h reads e = after r room s tr p h (reads .told []) e
 
   -- a call that gave a node was made on a token that can begin the rule
   pub after-call : {r : Rule} {room : ℕ} {s : State} {tr : List ℕ} {a : Parsed} {tr′ : List ℕ} {n : NodeNumber} {s′ : State} → Spares r → mem Eof (first r) ≡ false → s .at .0 ≤ eofAt toks →
-      Parts src toks room (call r) [] node s tr a tr′ → a ≡ Node n s′ → Grown src toks (rank r + 1) s n s′
+      Parts src toks room (call r) [] a-node s tr a tr′ → a ≡ Node n s′ → Grown src toks (rank r + 1) s n s′
   unfolding walk byD state
   after-call {r} {room} {s} {tr} {a} {tr′} {n} {s′} p out h reads e = go (mem (symbolAt src toks (s .at .0)) (first r)) refl
     where
@@ -150,7 +150,7 @@ pub record Went (src toks : List ℕ) (s s′ : State) : Type 0 where
 
 module _ (src toks : List ℕ) (w : Tokens src toks) where
   after-from : (ins : List Value) {high : ℕ} {p : Part Action Rule} {room : ℕ} {s : State} {tr : List ℕ} {a : Parsed} {tr′ : List ℕ} {n : NodeNumber} {s′ : State} → Bounded high p → s .at .0 < eofAt toks → owed ins ≡ 0 →
-      Held (length (nodesOf tr (s .nodes))) ins → Comes src toks room p node [] ins s tr a tr′ → a ≡ Node n s′ → Grown src toks high s n s′
+      Held (length (nodesOf tr (s .nodes))) ins → Comes src toks room p a-node [] ins s tr a tr′ → a ≡ Node n s′ → Grown src toks high s n s′
   unfolding state meter counted owed count Held Fit
   after-from ins {high = high} {p = p} {room = room} {s = s} {tr = tr} {tr′ = tr′} {n = n} {s′ = s′} t h none all reads e =
       let st = state src toks s tr ins in
@@ -172,21 +172,21 @@ module _ (src toks : List ℕ) (w : Tokens src toks) where
       }
 
   pub after-part : {high : ℕ} {p : Part Action Rule} {room : ℕ} {s : State} {tr : List ℕ} {a : Parsed} {tr′ : List ℕ} {n : NodeNumber} {s′ : State} (m : ℕ) → Bounded high p → s .at .0 < eofAt toks → m < s .nodes →
-      Parts src toks room p (node m ∷ []) node s tr a tr′ → a ≡ Node n s′ → Grown src toks high s n s′
+      Parts src toks room p (node m ∷ []) a-node s tr a tr′ → a ≡ Node n s′ → Grown src toks high s n s′
   unfolding owed count Held Fit
   after-part {s = s} {tr = tr} m b h l reads e = let k = length-nodes tr (s .nodes) in after-from (node m ∷ []) b h refl (omega arith, tt) (reads .comes []) e
 
   pub after-start : {high : ℕ} {p : Part Action Rule} {room : ℕ} {s : State} {tr : List ℕ} {a : Parsed} {tr′ : List ℕ} {n : NodeNumber} {s′ : State} → Bounded high p → s .at .0 < eofAt toks →
-      Parts src toks room p [] node s tr a tr′ → a ≡ Node n s′ → Grown src toks high s n s′
+      Parts src toks room p [] a-node s tr a tr′ → a ≡ Node n s′ → Grown src toks high s n s′
   unfolding owed Held
   after-start b h reads e = after-from [] b h refl tt (reads .comes []) e
 
-  went : (ins : List Value) {p : Part Action Rule} {room : ℕ} {out : ℕ → Value} {s : State} {tr : List ℕ} {a : Parsed} {tr′ : List ℕ} {n : NodeNumber} {s′ : State} → Modest p → s .at .0 ≤ eofAt toks → owed ins ≡ 0 → count (out (n .0)) ≡ 0 →
+  went : (ins : List Value) {p : Part Action Rule} {room : ℕ} {out : Shape} {s : State} {tr : List ℕ} {a : Parsed} {tr′ : List ℕ} {n : NodeNumber} {s′ : State} → Modest p → s .at .0 ≤ eofAt toks → owed ins ≡ 0 → count (out (n .0) (s′ .nodes)) ≡ 0 →
       Comes src toks room p out [] ins s tr a tr′ → a ≡ Node n s′ → Went src toks s s′
   unfolding state meter counted owed
   went ins {p = p} {room = room} {out = out} {s = s} {tr = tr} {tr′ = tr′} {n = n} {s′ = s′} t h none free reads e =
       let st = state src toks s tr ins in
-      let x : walk first (descend pyhyeon room) p (s .opened) st ≡ done (s′ .opened) (state src toks s′ tr′ (out (n .0) ∷ [])) = is-node (reads .told) e in
+      let x : walk first (descend pyhyeon room) p (s .opened) st ≡ done (s′ .opened) (state src toks s′ tr′ (out (n .0) (s′ .nodes) ∷ [])) = is-node (reads .told) e in
       let b = left src toks w (s .at .0) h in
       let c = at-done (walk-counts pyhyeon prices frugal (meter src (tokensOf src toks)) room p 10 0 (s .opened) st (t .tidy) (t .lower) (t .pays) fresh) x in
       let d = at-done (walk-along (keeps src (tokensOf src toks)) pyhyeon room p (s .opened) st) x in
@@ -201,18 +201,18 @@ module _ (src toks : List ℕ) (w : Tokens src toks) where
 
   -- a list, from nothing at hand, or from its first member
   pub after-list : {p : Part Action Rule} {room : ℕ} {s : State} {tr : List ℕ} {a : Parsed} {tr′ : List ℕ} {n : NodeNumber} {s′ : State} → Modest p → s .at .0 ≤ eofAt toks →
-      Parts src toks room p [] list s tr a tr′ → a ≡ Node n s′ → Went src toks s s′
+      Parts src toks room p [] a-list s tr a tr′ → a ≡ Node n s′ → Went src toks s s′
   unfolding owed count
   after-list t h reads e = went [] t h refl refl (reads .comes []) e
 
   pub after-rest : {p : Part Action Rule} {room : ℕ} {s : State} {tr : List ℕ} {a : Parsed} {tr′ : List ℕ} {n : NodeNumber} {s′ : State} (m : ℕ) → Modest p → s .at .0 ≤ eofAt toks →
-      Parts src toks room p (node m ∷ []) list s tr a tr′ → a ≡ Node n s′ → Went src toks s s′
+      Parts src toks room p (node m ∷ []) a-list s tr a tr′ → a ≡ Node n s′ → Went src toks s s′
   unfolding owed count
   after-rest m t h reads e = went (node m ∷ []) t h refl refl (reads .comes []) e
 
   -- a part that takes a node and gives one
   pub after-node : {p : Part Action Rule} {room : ℕ} {s : State} {tr : List ℕ} {a : Parsed} {tr′ : List ℕ} {n : NodeNumber} {s′ : State} (m : ℕ) → Modest p → s .at .0 ≤ eofAt toks → m < s .nodes →
-      Parts src toks room p (node m ∷ []) node s tr a tr′ → a ≡ Node n s′ → Went src toks s s′ × (n .0 < s′ .nodes)
+      Parts src toks room p (node m ∷ []) a-node s tr a tr′ → a ≡ Node n s′ → Went src toks s s′ × (n .0 < s′ .nodes)
   unfolding owed count Held Fit state
   after-node {p} {room} {s} {tr} {a} {tr′} {n} {s′} m t h l reads e =
       let st = state src toks s tr (node m ∷ []) in

@@ -18,16 +18,16 @@ use Rattle.grammar.proofs.Step.{descend-is, many-is, list-is}
 use Rattle.grammar.proofs.Whole.{Sound, tested}
 use Rattle.token.specs.declared.NodeNumber.{NodeNumber}
 use Rattle.pyhyeon.specs.Symbol.{symbols}
-use Rattle.pyhyeon.specs.Machine.{Value, node, Kept}
+use Rattle.pyhyeon.specs.Machine.{Value, Kept}
 use Rattle.pyhyeon.specs.Action.{Action, perform, machine}
-use Rattle.pyhyeon.specs.Rules.{Rule, E}
+use Rattle.pyhyeon.specs.Rules.{Rule}
 use Rattle.pyhyeon.specs.Tables.{joined, first, opens, pyhyeon}
 use Rattle.pyhyeon.proofs.Language.{language}
 use Rattle.leaves.specs.declared.State.{State}
 use Rattle.leaves.specs.declared.Parsed.{Parsed}
 use Rattle.leaves.specs.declared.Parsed.the-variants.{Node, Refused}
 use Rattle.leaves.specs.Tokens.{eofAt, textBefore, tokensOf, symbolAt}
-use Rattle.leaves.specs.Contract.{past, raised, kept, state, Told, told-node, told-no, told-deep, Rules, Comes, Parts}
+use Rattle.leaves.specs.Contract.{past, raised, kept, state, Shape, Told, told-node, told-no, told-deep, Rules, Comes, Parts}
 use Rattle.leaves.proofs.Tokens.{symbols-length, symbols-at, sees-at}
 
 -- the tables pass their test
@@ -35,14 +35,14 @@ pub good : (r : Rule) → Sound pyhyeon r
 good r = tested pyhyeon r (language .passes r)
 
 -- an answer that is a node tells what the descent came to
-pub is-node : {src toks : List ℕ} {out : ℕ → Value} {x : Answer (machine src (tokensOf src toks))} {r : Parsed} {tr : List ℕ} {n : NodeNumber} {s : State} {vs : List Value} → Told src toks out vs x r tr → r ≡ Node n s →
-    x ≡ done (s .opened) (state src toks s tr (out (n .0) ∷ vs))
+pub is-node : {src toks : List ℕ} {out : Shape} {x : Answer (machine src (tokensOf src toks))} {r : Parsed} {tr : List ℕ} {n : NodeNumber} {s : State} {vs : List Value} → Told src toks out vs x r tr → r ≡ Node n s →
+    x ≡ done (s .opened) (state src toks s tr (out (n .0) (s .nodes) ∷ vs))
 is-node (told-node n s tr u) e = cc
 is-node (told-no s tr ws) e = cc
 is-node (told-deep s tr ws) e = cc
 
 -- and the text before its token is counted
-pub is-used : {src toks : List ℕ} {out : ℕ → Value} {x : Answer (machine src (tokensOf src toks))} {r : Parsed} {tr : List ℕ} {n : NodeNumber} {s : State} {vs : List Value} → Told src toks out vs x r tr → r ≡ Node n s →
+pub is-used : {src toks : List ℕ} {out : Shape} {x : Answer (machine src (tokensOf src toks))} {r : Parsed} {tr : List ℕ} {n : NodeNumber} {s : State} {vs : List Value} → Told src toks out vs x r tr → r ≡ Node n s →
     s .used ≡ textBefore src toks (s .at .0)
 is-used {s = s} (told-node n s₁ tr u) e = let d : s₁ ≡ s = cc in rw (← d) u
 is-used (told-no s tr ws) e = let z : _≡_ {A = ℕ} 0 1 = cc in absurd (omega arith)
@@ -167,7 +167,7 @@ module _ (src toks : List ℕ) (room : ℕ) (s : State) (tr : List ℕ) (ws : Li
         ∙ then-assoc (on src toks room p (s .opened) st′) (on src toks room (tail c p)) (on src toks room q)
         ∙ sym (regroup src toks room p (tail c p ⨾ q) (s .opened) st′)
 
-module _ {src toks : List ℕ} {room : ℕ} {out : ℕ → Value} {vs : List Value} {a : Parsed} {t : List ℕ} where
+module _ {src toks : List ℕ} {room : ℕ} {out : Shape} {vs : List Value} {a : Parsed} {t : List ℕ} where
   -- a token that is there, and one that is not
   pub tok-then : {set : List ℕ} {q : Part Action Rule} {s : State} {tr : List ℕ} {ws : List Value} → s .at .0 ≤ eofAt toks → mem (symbolAt src toks (s .at .0)) set ≡ true →
       Comes src toks room q out vs ws (past s) tr a t → Comes src toks room (tok set ⨾ q) out vs ws s tr a t
@@ -181,8 +181,8 @@ module _ {src toks : List ℕ} {room : ℕ} {out : ℕ → Value} {vs : List Val
   act-then {s = s} {s′ = s′} p e o c = record { told = rw (p, e, o) (c .told) }
 
   -- a part that code of its own reads
-  pub part-then : {p q : Part Action Rule} {ins : List Value} {s s₁ : State} {tr tr₁ : List ℕ} {ws : List Value} {b : Parsed} {n : NodeNumber} {mid : ℕ → Value} → Parts src toks room p ins mid s tr b tr₁ → b ≡ Node n s₁ →
-      Comes src toks room q out vs (mid (n .0) ∷ ws) s₁ tr₁ a t → Comes src toks room (p ⨾ q) out vs (ins ++ ws) s tr a t
+  pub part-then : {p q : Part Action Rule} {ins : List Value} {s s₁ : State} {tr tr₁ : List ℕ} {ws : List Value} {b : Parsed} {n : NodeNumber} {mid : Shape} → Parts src toks room p ins mid s tr b tr₁ → b ≡ Node n s₁ →
+      Comes src toks room q out vs (mid (n .0) (s₁ .nodes) ∷ ws) s₁ tr₁ a t → Comes src toks room (p ⨾ q) out vs (ins ++ ws) s tr a t
   unfolding walk seqD thenD
   part-then {ws = ws} r e c = record { told = rw (is-node (r .comes ws .told) e) (c .told) }
 
@@ -192,8 +192,8 @@ module _ {src toks : List ℕ} {room : ℕ} {out : ℕ → Value} {vs : List Val
   flat {p} {q} {s} {tr} {ws} c = record { told = rw (regroup src toks room p q (s .opened) (state src toks s tr ws)) at (c .told) }
 
   -- a part that code of its own reads, at the head of a longer one
-  pub flat-then : {p q : Part Action Rule} {ins : List Value} {s s₁ : State} {tr tr₁ : List ℕ} {ws : List Value} {b : Parsed} {n : NodeNumber} {mid : ℕ → Value} → Parts src toks room p ins mid s tr b tr₁ → b ≡ Node n s₁ →
-      Comes src toks room q out vs (mid (n .0) ∷ ws) s₁ tr₁ a t → Comes src toks room (p ⨟ q) out vs (ins ++ ws) s tr a t
+  pub flat-then : {p q : Part Action Rule} {ins : List Value} {s s₁ : State} {tr tr₁ : List ℕ} {ws : List Value} {b : Parsed} {n : NodeNumber} {mid : Shape} → Parts src toks room p ins mid s tr b tr₁ → b ≡ Node n s₁ →
+      Comes src toks room q out vs (mid (n .0) (s₁ .nodes) ∷ ws) s₁ tr₁ a t → Comes src toks room (p ⨟ q) out vs (ins ++ ws) s tr a t
   unfolding thenD
   flat-then {p} {q} {ins} {s} {tr = tr} {ws = ws} r e c = record { told = rw (regroup src toks room p q (s .opened) (state src toks s tr (ins ++ ws)), is-node (r .comes ws .told) e) (c .told) }
 
@@ -252,67 +252,67 @@ module _ {src toks : List ℕ} {room : ℕ} {out : ℕ → Value} {vs : List Val
   list-on {i} {p} {q} {s = s} {tr = tr} {ws = ws} l h e f c = record { told = rw (tail-goes src toks room s tr ws (omega arith) i p q l e h f) (c .told) }
 
 -- a rule is its body, with one opening more
-module _ {src toks : List ℕ} {room : ℕ} {s : State} {tr : List ℕ} where
-  pub open-plain : {r : Rule} {a : Parsed} {t : List ℕ} → opens r ≡ false → ((vs : List Value) → Comes src toks room (joined r) node vs vs (raised s) tr a t) → Rules src toks room r s tr a t
+module _ {src toks : List ℕ} {room : ℕ} {r : Rule} {out : Shape} {s : State} {tr : List ℕ} where
+  pub open-plain : {a : Parsed} {t : List ℕ} → opens r ≡ false → ((vs : List Value) → Comes src toks room (joined r) out vs vs (raised s) tr a t) → Rules src toks room r out s tr a t
   unfolding state enter
-  open-plain {r} o c = record { told = λ vs. rw (descend-is pyhyeon good room r (s .opened) (state src toks s tr vs), o) (c vs .told) }
+  open-plain o c = record { told = λ vs. rw (descend-is pyhyeon good room r (s .opened) (state src toks s tr vs), o) (c vs .told) }
 
-  -- E takes of the room
-  pub open-deep : room ≡ 0 → Rules src toks room E s tr (Refused 13 s) tr
-  unfolding enter opens
-  open-deep z = record { told = λ vs. rw (descend-is pyhyeon good room E (s .opened) (state src toks s tr vs), z) (told-deep s tr vs) }
+  -- E and Block take of the room
+  pub open-deep : opens r ≡ true → room ≡ 0 → Rules src toks room r out s tr (Refused 13 s) tr
+  unfolding enter
+  open-deep o z = record { told = λ vs. rw (descend-is pyhyeon good room r (s .opened) (state src toks s tr vs), o, z) (told-deep s tr vs) }
 
-  pub open-room : {a : Parsed} {t : List ℕ} → (room ≡ 0 → ⊥) → ((vs : List Value) → Comes src toks (room - 1) (joined E) node vs vs (raised s) tr a t) → Rules src toks room E s tr a t
-  unfolding enter opens state
-  open-room {a} {t} nz c = go room nz c
+  pub open-room : {a : Parsed} {t : List ℕ} → opens r ≡ true → (room ≡ 0 → ⊥) → ((vs : List Value) → Comes src toks (room - 1) (joined r) out vs vs (raised s) tr a t) → Rules src toks room r out s tr a t
+  unfolding enter state
+  open-room {a} {t} o nz c = go room nz c
     where
-      go : (m : ℕ) → (m ≡ 0 → ⊥) → ((vs : List Value) → Comes src toks (m - 1) (joined E) node vs vs (raised s) tr a t) → Rules src toks m E s tr a t
+      go : (m : ℕ) → (m ≡ 0 → ⊥) → ((vs : List Value) → Comes src toks (m - 1) (joined r) out vs vs (raised s) tr a t) → Rules src toks m r out s tr a t
       go zero nz c = absurd (nz refl)
-      go (suc m) nz c = let e : suc m - 1 ≡ m = omega arith in record { told = λ vs. rw (descend-is pyhyeon good (suc m) E (s .opened) (state src toks s tr vs)) (rw e at (c vs .told)) }
+      go (suc m) nz c = let e : suc m - 1 ≡ m = omega arith in record { told = λ vs. rw (descend-is pyhyeon good (suc m) r (s .opened) (state src toks s tr vs), o) (rw e at (c vs .told)) }
 
-stop : {src toks : List ℕ} {out mid : ℕ → Value} {vs : List Value} {x : Answer (machine src (tokensOf src toks))} {b : Parsed} {t : List ℕ} {k : ℕ} {s₁ : State} {us : List Value} (w : Walk (machine src (tokensOf src toks))) → Told src toks mid us x b t → b ≡ Refused k s₁ → Told src toks out vs (thenD x w) (Refused k s₁) t
+stop : {src toks : List ℕ} {out mid : Shape} {vs : List Value} {x : Answer (machine src (tokensOf src toks))} {b : Parsed} {t : List ℕ} {k : ℕ} {s₁ : State} {us : List Value} (w : Walk (machine src (tokensOf src toks))) → Told src toks mid us x b t → b ≡ Refused k s₁ → Told src toks out vs (thenD x w) (Refused k s₁) t
 unfolding thenD
 stop w (told-node n s tr u) e = absurd (let z : _≡_ {A = ℕ} 0 1 = cc in omega arith)
 stop w (told-no s tr ws) e = rw (← e) (told-no s tr ws)
 stop w (told-deep s tr ws) e = rw (← e) (told-deep s tr ws)
 
 -- where a part ends: the node, or the refusal
-module _ {src toks : List ℕ} {room : ℕ} {out : ℕ → Value} {vs : List Value} where
-  pub act-last : {x : Action} {s s′ : State} {tr tr′ : List ℕ} {ws : List Value} {n : NodeNumber} → perform src (tokensOf src toks) x (kept s tr ws) ≡ kept s′ tr′ (out (n .0) ∷ vs) → s .at ≡ s′ .at → s .opened ≡ s′ .opened → s′ .used ≡ textBefore src toks (s′ .at .0) →
+module _ {src toks : List ℕ} {room : ℕ} {out : Shape} {vs : List Value} where
+  pub act-last : {x : Action} {s s′ : State} {tr tr′ : List ℕ} {ws : List Value} {n : NodeNumber} → perform src (tokensOf src toks) x (kept s tr ws) ≡ kept s′ tr′ (out (n .0) (s′ .nodes) ∷ vs) → s .at ≡ s′ .at → s .opened ≡ s′ .opened → s′ .used ≡ textBefore src toks (s′ .at .0) →
       Comes src toks room (act x) out vs ws s tr (Node n s′) tr′
   unfolding walk sameD actP state
   act-last {s′ = s′} {tr′ = tr′} {n = n} p e o u = record { told = rw (p, e, o) (told-node n s′ tr′ u) }
 
   -- nothing, after a node
-  pub skip-end : {s : State} {tr : List ℕ} {n : NodeNumber} → s .used ≡ textBefore src toks (s .at .0) → Comes src toks room skip out vs (out (n .0) ∷ vs) s tr (Node n s) tr
+  pub skip-end : {s : State} {tr : List ℕ} {n : NodeNumber} → s .used ≡ textBefore src toks (s .at .0) → Comes src toks room skip out vs (out (n .0) (s .nodes) ∷ vs) s tr (Node n s) tr
   unfolding walk sameD skipP
   skip-end {s} {tr} {n} u = record { told = told-node n s tr u }
 
   pub turn-end : {p : Part Action Rule} {s : State} {tr : List ℕ} {n : NodeNumber} → T (low pyhyeon 100 100 (many p)) → s .at .0 ≤ eofAt toks → mem (symbolAt src toks (s .at .0)) (begins first p) ≡ false → s .used ≡ textBefore src toks (s .at .0) →
-      Comes src toks room (many p) out vs (out (n .0) ∷ vs) s tr (Node n s) tr
-  turn-end {p} {s} {tr} {n} l h e u = record { told = rw (many-none src toks room s tr (out (n .0) ∷ vs) h p l e) (told-node n s tr u) }
+      Comes src toks room (many p) out vs (out (n .0) (s .nodes) ∷ vs) s tr (Node n s) tr
+  turn-end {p} {s} {tr} {n} l h e u = record { told = rw (many-none src toks room s tr (out (n .0) (s .nodes) ∷ vs) h p l e) (told-node n s tr u) }
 
   pub tok-not : {set : List ℕ} {q : Part Action Rule} {s : State} {tr : List ℕ} {ws : List Value} → s .at .0 ≤ eofAt toks → mem (symbolAt src toks (s .at .0)) set ≡ false →
       Comes src toks room (tok set ⨾ q) out vs ws s tr (Refused 14 s) tr
   unfolding walk seqD thenD sameD
   tok-not {set} {s = s} {tr = tr} {ws = ws} h e = record { told = rw (take-unseen src toks set s tr ws h e) (told-no s tr ws) }
 
-  pub part-stop : {p q : Part Action Rule} {ins : List Value} {s s₁ : State} {tr tr₁ : List ℕ} {b : Parsed} {k : ℕ} {mid : ℕ → Value} (ws : List Value) → Parts src toks room p ins mid s tr b tr₁ → b ≡ Refused k s₁ →
+  pub part-stop : {p q : Part Action Rule} {ins : List Value} {s s₁ : State} {tr tr₁ : List ℕ} {b : Parsed} {k : ℕ} {mid : Shape} (ws : List Value) → Parts src toks room p ins mid s tr b tr₁ → b ≡ Refused k s₁ →
       Comes src toks room (p ⨾ q) out vs (ins ++ ws) s tr (Refused k s₁) tr₁
   unfolding walk seqD
   part-stop {q = q} ws r e = record { told = stop (on src toks room q) (r .comes ws .told) e }
 
-module _ {src toks : List ℕ} {room : ℕ} {out : ℕ → Value} {vs : List Value} where
-  pub flat-stop : {p : Part Action Rule} {ins : List Value} {s s₁ : State} {tr tr₁ : List ℕ} {b : Parsed} {k : ℕ} {mid : ℕ → Value} (q : Part Action Rule) (ws : List Value) → Parts src toks room p ins mid s tr b tr₁ → b ≡ Refused k s₁ →
+module _ {src toks : List ℕ} {room : ℕ} {out : Shape} {vs : List Value} where
+  pub flat-stop : {p : Part Action Rule} {ins : List Value} {s s₁ : State} {tr tr₁ : List ℕ} {b : Parsed} {k : ℕ} {mid : Shape} (q : Part Action Rule) (ws : List Value) → Parts src toks room p ins mid s tr b tr₁ → b ≡ Refused k s₁ →
       Comes src toks room (p ⨟ q) out vs (ins ++ ws) s tr (Refused k s₁) tr₁
   flat-stop {p} {ins} {s} {tr = tr} q ws r e = record { told = rw (regroup src toks room p q (s .opened) (state src toks s tr (ins ++ ws))) (stop (on src toks room q) (r .comes ws .told) e) }
 
 -- a call of a rule
-module _ {src toks : List ℕ} {room : ℕ} {r : Rule} {s : State} {tr : List ℕ} where
-  pub called : {a : Parsed} {t : List ℕ} → s .at .0 ≤ eofAt toks → mem (symbolAt src toks (s .at .0)) (first r) ≡ true → Rules src toks room r s tr a t → Parts src toks room (call r) [] node s tr a t
+module _ {src toks : List ℕ} {room : ℕ} {r : Rule} {out : Shape} {s : State} {tr : List ℕ} where
+  pub called : {a : Parsed} {t : List ℕ} → s .at .0 ≤ eofAt toks → mem (symbolAt src toks (s .at .0)) (first r) ≡ true → Rules src toks room r out s tr a t → Parts src toks room (call r) [] out s tr a t
   unfolding walk byD state
   called h e c = record { comes = λ vs. record { told = rw (sees-at src toks (first r) (s .at .0) h ∙ e) (c .told vs) } }
 
-  pub not-called : s .at .0 ≤ eofAt toks → mem (symbolAt src toks (s .at .0)) (first r) ≡ false → Parts src toks room (call r) [] node s tr (Refused 14 s) tr
+  pub not-called : s .at .0 ≤ eofAt toks → mem (symbolAt src toks (s .at .0)) (first r) ≡ false → Parts src toks room (call r) [] out s tr (Refused 14 s) tr
   unfolding walk byD state
   not-called h e = record { comes = λ vs. record { told = rw (sees-at src toks (first r) (s .at .0) h ∙ e) (told-no s tr vs) } }

@@ -24,7 +24,7 @@ use Rattle.leaves.specs.declared.Added.{Added}
 use Rattle.leaves.specs.declared.Parsed.{Parsed}
 use Rattle.leaves.specs.declared.Parsed.the-variants.{Node}
 use Rattle.leaves.specs.Tokens.{eofAt, textBefore, tokensOf, symbolAt}
-use Rattle.leaves.specs.Contract.{past, added, kept, Comes, Writes, Literals, Changes, Wraps, Joins}
+use Rattle.leaves.specs.Contract.{past, added, kept, Shape, a-node, a-list, Comes, Writes, Literals, Changes, Wraps, Joins}
 use Rattle.joint.proofs.Chain.{tok-then, act-then, act-last}
 
 -- the node that a leaf wrote, by its number
@@ -33,36 +33,36 @@ number-of e = ap (λ (k : ℕ). record { 0 = k }) e
 
 -- an action that ends a part
 module _ {src toks : List ℕ} {room : ℕ} {vs : List Value} {s : State} {tr tr′ : List ℕ} {r : Added} where
-  pub act-wrote : {x : Action} {ins : List Value} → s .used ≡ textBefore src toks (s .at .0) → Writes src toks x ins s tr r tr′ → Comes src toks room (act x) node vs (ins ++ vs) s tr (Node (r .0) (r .1)) tr′
-  act-wrote u w = rw (w .after, number-of (w .node)) (act-last {out = node} (w .same vs) refl refl u)
+  pub act-wrote : {x : Action} {ins : List Value} → s .used ≡ textBefore src toks (s .at .0) → Writes src toks x ins s tr r tr′ → Comes src toks room (act x) a-node vs (ins ++ vs) s tr (Node (r .0) (r .1)) tr′
+  act-wrote u w = rw (w .after, number-of (w .node)) (act-last {out = a-node} (w .same vs) refl refl u)
 
-  pub act-literal : Literals src toks s tr r tr′ → Comes src toks room (act literal) node vs vs s tr (Node (r .0) (r .1)) tr′
-  act-literal w = rw (w .after, number-of (w .node)) (act-last {out = node} (w .same vs) refl refl refl)
+  pub act-literal : Literals src toks s tr r tr′ → Comes src toks room (act literal) a-node vs vs s tr (Node (r .0) (r .1)) tr′
+  act-literal w = rw (w .after, number-of (w .node)) (act-last {out = a-node} (w .same vs) refl refl refl)
 
   pub act-wrapped : {first end child : ℕ} → s .used ≡ textBefore src toks (s .at .0) → Wraps src toks first end child s tr r tr′ →
-      Comes src toks room (act unary) node vs (node child ∷ signs first (end - first) ∷ vs) s tr (Node (r .0) (r .1)) tr′
+      Comes src toks room (act unary) a-node vs (node child ∷ signs first (end - first) ∷ vs) s tr (Node (r .0) (r .1)) tr′
   unfolding perform number count
-  act-wrapped u w = act-last {out = node} (w .same vs) (w .at) (w .opened) (sym (w .used) ∙ u ∙ ap (λ (t : ℕ). textBefore src toks t) (ap (λ t. t .0) (w .at)))
+  act-wrapped u w = act-last {out = a-node} (w .same vs) (w .at) (w .opened) (sym (w .used) ∙ u ∙ ap (λ (t : ℕ). textBefore src toks t) (ap (λ t. t .0) (w .at)))
 
 module _ {src toks : List ℕ} {room : ℕ} {vs : List Value} {s : State} {tr : List ℕ} {n : NodeNumber} where
-  pub act-changed : {x : Action} {ins : List Value} {tr′ : List ℕ} → s .used ≡ textBefore src toks (s .at .0) → Changes src toks x ins (node (n .0) ∷ []) s tr tr′ → Comes src toks room (act x) node vs (ins ++ vs) s tr (Node n s) tr′
-  act-changed u w = act-last {out = node} (w .same vs) refl refl u
+  pub act-changed : {x : Action} {ins : List Value} {tr′ : List ℕ} → s .used ≡ textBefore src toks (s .at .0) → Changes src toks x ins (node (n .0) ∷ []) s tr tr′ → Comes src toks room (act x) a-node vs (ins ++ vs) s tr (Node n s) tr′
+  act-changed u w = act-last {out = a-node} (w .same vs) refl refl u
 
-  pub compared-last : {l : ℕ} → s .used ≡ textBefore src toks (s .at .0) → Comes src toks room (act compared) node vs (chain (n .0) l ∷ vs) s tr (Node n s) tr
+  pub compared-last : {l : ℕ} → s .used ≡ textBefore src toks (s .at .0) → Comes src toks room (act compared) a-node vs (chain (n .0) l ∷ vs) s tr (Node n s) tr
   unfolding perform whole
-  compared-last u = act-last {out = node} refl refl refl u
+  compared-last u = act-last {out = a-node} refl refl refl u
 
-  pub list-last : {l : ℕ} → s .used ≡ textBefore src toks (s .at .0) → Comes src toks room (act list-done) list vs (growing (n .0) l ∷ vs) s tr (Node n s) tr
+  pub list-last : {l : ℕ} → s .used ≡ textBefore src toks (s .at .0) → Comes src toks room (act list-done) a-list vs (growing (n .0) l ∷ vs) s tr (Node n s) tr
   unfolding perform number
-  list-last u = act-last {out = list} refl refl refl u
+  list-last u = act-last {out = a-list} refl refl refl u
 
 module _ {src toks : List ℕ} {room : ℕ} {vs : List Value} {s : State} {tr : List ℕ} where
-  pub none-last : s .used ≡ textBefore src toks (s .at .0) → Comes src toks room (act list-none) list vs vs s tr (Node (record { 0 = none }) s) tr
+  pub none-last : s .used ≡ textBefore src toks (s .at .0) → Comes src toks room (act list-none) a-list vs vs s tr (Node (record { 0 = none }) s) tr
   unfolding perform
-  none-last u = act-last {out = list} refl refl refl u
+  none-last u = act-last {out = a-list} refl refl refl u
 
 -- an action, and more after it
-module _ {src toks : List ℕ} {room : ℕ} {out : ℕ → Value} {vs ws : List Value} {s : State} {tr : List ℕ} {q : Part Action Rule} {a : Parsed} {t : List ℕ} where
+module _ {src toks : List ℕ} {room : ℕ} {out : Shape} {vs ws : List Value} {s : State} {tr : List ℕ} {q : Part Action Rule} {a : Parsed} {t : List ℕ} where
   pub wrote-then : {x : Action} {ins : List Value} {tr′ : List ℕ} {r : Added} → Writes src toks x ins s tr r tr′ → Comes src toks room q out vs (node (r .0 .0) ∷ ws) (r .1) tr′ a t → Comes src toks room (act x ⨾ q) out vs (ins ++ ws) s tr a t
   wrote-then {r = r} w c = act-then (w .same ws) refl refl (rw (w .after, w .node) at c)
 
@@ -104,7 +104,7 @@ module _ {src toks : List ℕ} {room : ℕ} {out : ℕ → Value} {vs ws : List 
   unfolding perform number
   done-then c = act-then refl refl refl c
 
-module _ {src toks : List ℕ} {room : ℕ} {out : ℕ → Value} {vs : List Value} {s : State} {tr : List ℕ} {q : Part Action Rule} {a : Parsed} {t : List ℕ} where
+module _ {src toks : List ℕ} {room : ℕ} {out : Shape} {vs : List Value} {s : State} {tr : List ℕ} {q : Part Action Rule} {a : Parsed} {t : List ℕ} where
   -- a leaf's change, and more after it
   pub changed-then : {x : Action} {ins outs : List Value} {tr′ : List ℕ} (ws : List Value) → Changes src toks x ins outs s tr tr′ → Comes src toks room q out vs (outs ++ ws) s tr′ a t → Comes src toks room (act x ⨾ q) out vs (ins ++ ws) s tr a t
   changed-then ws w c = act-then (w .same ws) refl refl c
@@ -123,7 +123,7 @@ module _ {src toks tr tr′ : List ℕ} {s : State} {r : Added} {op y : ℕ} whe
       ap (λ (k : Kept). put 1 (chain (length (nodesOf tr (s .nodes)) + 1) y) (binaryOf src (tokensOf src toks) 1 (binaryOp code.And) first (length (nodesOf tr (s .nodes))) k)) (w .same vs)
       ∙ rw (length-nodes tr (s .nodes)) (ap (λ (k : Kept). put 1 (chain (s .nodes + 1) y) k) (j .same (node (s .nodes)) vs))
 
-module _ {src toks : List ℕ} {room : ℕ} {out : ℕ → Value} {vs ws : List Value} {s : State} {tr tr′ : List ℕ} {q : Part Action Rule} {a : Parsed} {t : List ℕ} {op x y : ℕ} {r : Added} where
+module _ {src toks : List ℕ} {room : ℕ} {out : Shape} {vs ws : List Value} {s : State} {tr tr′ : List ℕ} {q : Part Action Rule} {a : Parsed} {t : List ℕ} {op x y : ℕ} {r : Added} where
   pub compare-then : Writes src toks binary (node y ∷ token op ∷ node x ∷ []) s tr r tr′ → Comes src toks room q out vs (chain (r .0 .0) y ∷ ws) (r .1) tr′ a t →
       Comes src toks room (act compare ⨾ q) out vs (node y ∷ token op ∷ node x ∷ ws) s tr a t
   compare-then w c = act-then (compare-is ws w) refl refl (rw (w .after, w .node) at c)

@@ -15,7 +15,7 @@ use Rattle.leaves.specs.declared.State.{State}
 use Rattle.leaves.specs.declared.Parsed.{Parsed}
 use Rattle.leaves.specs.declared.Parsed.the-variants.{Node, Refused}
 use Rattle.leaves.specs.Tokens.{eofAt, textBefore, Tokens}
-use Rattle.leaves.specs.Contract.{Comes, Ready, Led, Lists}
+use Rattle.leaves.specs.Contract.{Shape, a-node, Comes, Ready, Led, Lists}
 
 -- what code needs at a state, of the numbers that are left to show
 pub ready-of : {src toks tr : List ℕ} {s : State} {extra : ℕ} → Tokens src toks →
@@ -28,7 +28,7 @@ pub record Going (src toks : List ℕ) (extra room : ℕ) (p : Part Action Rule)
   pub on : s₀ .at .0 ≤ s .at .0
   pub long : length tr ≡ length tr₀
   pub node : n < s .nodes
-  pub same : (vs : List Value) {a : Parsed} {t : List ℕ} → Comes src toks room p Value.node vs (v ++ vs) s tr a t → Comes src toks room p Value.node vs (v₀ ++ vs) s₀ tr₀ a t
+  pub same : (vs : List Value) {a : Parsed} {t : List ℕ} → Comes src toks room p a-node vs (v ++ vs) s tr a t → Comes src toks room p a-node vs (v₀ ++ vs) s₀ tr₀ a t
 
 pub begin : {src toks : List ℕ} {extra room : ℕ} {p : Part Action Rule} {v : List Value} {n : ℕ} {s : State} {tr : List ℕ} → Ready src toks tr s extra → n < s .nodes → Going src toks extra room p v s tr v n s tr
 begin r l = record { ready = r; on = omega arith; long = refl; node = l; same = λ vs c. c }
@@ -41,7 +41,7 @@ pub record Listing (src toks : List ℕ) (room : ℕ) (p : Part Action Rule) (fi
   pub spare : s .nodes + 2 * s₀ .at .0 ≤ s₀ .nodes + 2 * s .at .0
   pub long : length tr ≡ length tr₀
   pub node : last < s .nodes
-  pub same : (out : ℕ → Value) (q : Part Action Rule) (vs ws : List Value) {a : Parsed} {t : List ℕ} → Comes src toks room (tail Comma (more p) ⨾ q) out vs (growing first last ∷ ws) s tr a t →
+  pub same : (out : Shape) (q : Part Action Rule) (vs ws : List Value) {a : Parsed} {t : List ℕ} → Comes src toks room (tail Comma (more p) ⨾ q) out vs (growing first last ∷ ws) s tr a t →
       Comes src toks room (tail Comma (more p) ⨾ q) out vs (growing first last₀ ∷ ws) s₀ tr₀ a t
 
 pub begin-list : {src toks : List ℕ} {room : ℕ} {p : Part Action Rule} {first last : ℕ} {s : State} {tr : List ℕ} → Ready src toks tr s 1 → last < s .nodes → Listing src toks room p first last s tr last s tr
@@ -55,7 +55,7 @@ module _ {src toks : List ℕ} {room : ℕ} {p : Part Action Rule} {ins : List V
     stops = λ out k s₁ e q vs ws. let z : _≡_ {A = ℕ} 0 1 = cc in absurd (omega arith);
   }
 
-  pub lists-stop : {k : ℕ} → ((out : ℕ → Value) (q : Part Action Rule) (vs ws : List Value) → Comes src toks room (p ⨾ q) out vs (ins ++ ws) s tr (Refused k s′) tr′) → Lists src toks room p ins s tr (Refused k s′) tr′
+  pub lists-stop : {k : ℕ} → ((out : Shape) (q : Part Action Rule) (vs ws : List Value) → Comes src toks room (p ⨾ q) out vs (ins ++ ws) s tr (Refused k s′) tr′) → Lists src toks room p ins s tr (Refused k s′) tr′
   lists-stop {k} f = record {
     leads = λ n₁ s₁ e. let z : _≡_ {A = ℕ} 0 1 = cc in absurd (omega arith);
     stops = λ out k₁ s₁ e q vs ws. let a : k ≡ k₁ = cc in let b : s′ ≡ s₁ = cc in rw (a, b) at (f out q vs ws);

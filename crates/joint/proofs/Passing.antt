@@ -16,7 +16,7 @@ use Rattle.pyhyeon.specs.Tables.{pyhyeon}
 use Rattle.leaves.specs.declared.State.{State}
 use Rattle.leaves.specs.declared.Parsed.{Parsed}
 use Rattle.leaves.specs.Tokens.{eofAt, textBefore, Tokens}
-use Rattle.leaves.specs.Contract.{Comes}
+use Rattle.leaves.specs.Contract.{Shape, Comes}
 use Rattle.leaves.specs.Put.{Signs}
 use Rattle.leaves.proofs.Tokens.{took}
 use Rattle.joint.proofs.Chain.{tok-then, act-then, many-on, many-end}
@@ -32,7 +32,7 @@ sign-low = tt
 abbrev pub moved : State → ℕ → State
 moved s t = record { at = record { 0 = t }; nodes = s .nodes; opened = s .opened; used = s .used }
 
-module _ {src toks : List ℕ} {room : ℕ} {out : ℕ → Value} {vs ws : List Value} {tr : List ℕ} {q : Part Action Rule} {a : Parsed} {t : List ℕ} {first end : ℕ} (s : State) (g : Signs src toks first end) where
+module _ {src toks : List ℕ} {room : ℕ} {out : Shape} {vs ws : List Value} {tr : List ℕ} {q : Part Action Rule} {a : Parsed} {t : List ℕ} {first end : ℕ} (s : State) (g : Signs src toks first end) where
   passing : (n k : ℕ) → k + n ≡ end → first ≤ k → Comes src toks room q out vs (signs first (end - first) ∷ ws) (moved s end) tr a t → Comes src toks room (many sign ⨾ q) out vs (signs first (k - first) ∷ ws) (moved s k) tr a t
   unfolding begins null perform number count
   passing zero k e l c =
@@ -46,7 +46,7 @@ module _ {src toks : List ℕ} {room : ℕ} {out : ℕ → Value} {vs ws : List 
       many-on sign-low h m (tok-then h m (act-then {s′ = moved s (k + 1)} (rw z) refl refl (passing n (k + 1) (omega arith) (omega arith) c)))
 
 -- all signs from the state's token on
-module _ {src toks : List ℕ} {room : ℕ} {out : ℕ → Value} {vs ws : List Value} {s : State} {tr : List ℕ} {q : Part Action Rule} {a : Parsed} {t : List ℕ} {end : ℕ} where
+module _ {src toks : List ℕ} {room : ℕ} {out : Shape} {vs ws : List Value} {s : State} {tr : List ℕ} {q : Part Action Rule} {a : Parsed} {t : List ℕ} {end : ℕ} where
   pub signs-pass : Signs src toks (s .at .0) end → Comes src toks room q out vs (signs (s .at .0) (end - s .at .0) ∷ ws) (moved s end) tr a t → Comes src toks room (many sign ⨾ q) out vs (signs (s .at .0) 0 ∷ ws) s tr a t
   signs-pass g c =
       let o = g .order in

@@ -15,7 +15,7 @@ use Rattle.token.specs.declared.NodeNumber.{NodeNumber}
 use Rattle.ast.specs.Operator.{binaryOp}
 use Rattle.ast.specs.Words.{nodesOf}
 use Rattle.pyhyeon.specs.Symbol.{symbols}
-use Rattle.pyhyeon.specs.Machine.{Value, node, growing, Kept, write}
+use Rattle.pyhyeon.specs.Machine.{Value, node, growing, list, Kept, write}
 use Rattle.pyhyeon.specs.Action.{Action, literal, unaryNode, wrap, binaryOf, perform, machine}
 use Rattle.pyhyeon.specs.Rules.{Rule}
 use Rattle.pyhyeon.specs.Tables.{first, pyhyeon}
@@ -42,23 +42,36 @@ kept s tr vs = record { at = s .at .0; nodes = nodesOf tr (s .nodes); values = v
 unfoldable pub state : (src toks : List ℕ) → State → List ℕ → List Value → St (machine src (tokensOf src toks))
 state src toks s tr vs = record { rest = drop (s .at .0) (symbols src (tokensOf src toks)); kept = kept s tr vs }
 
--- What the descent comes to, and the answer and the tree of the code: a node, or a list by its first node or none, which is one value more at hand
--- (`out` says which); or a refusal, 14 or 13, at the state's token, with whatever is at hand. After a node the state has counted the text before its token.
-pub data Told (src toks : List ℕ) (out : ℕ → Value) (vs : List Value) : Answer (machine src (tokensOf src toks)) → Parsed → List ℕ → Type 0 where
-  told-node : (n : NodeNumber) (s : State) (tr : List ℕ) → s .used ≡ textBefore src toks (s .at .0) → Told src toks out vs (done (s .opened) (state src toks s tr (out (n .0) ∷ vs))) (Node n s) tr
+-- The value that an answer stands for, by the node in it and the number of nodes written: a node, a list by its first node or none, or a list in
+-- the making, whose last node was written last.
+abbrev pub Shape : Type 0
+Shape = ℕ → ℕ → Value
+
+abbrev pub a-node : Shape
+a-node n c = node n
+
+abbrev pub a-list : Shape
+a-list n c = list n
+
+abbrev pub a-growing : Shape
+a-growing n c = growing n (c - 1)
+
+-- What the descent comes to, and the answer and the tree of the code: one value more at hand (`out` says which); or a refusal, 14 or 13, at the state's token, with whatever is at hand. After a node the state has counted the text before its token.
+pub data Told (src toks : List ℕ) (out : Shape) (vs : List Value) : Answer (machine src (tokensOf src toks)) → Parsed → List ℕ → Type 0 where
+  told-node : (n : NodeNumber) (s : State) (tr : List ℕ) → s .used ≡ textBefore src toks (s .at .0) → Told src toks out vs (done (s .opened) (state src toks s tr (out (n .0) (s .nodes) ∷ vs))) (Node n s) tr
   told-no : (s : State) (tr : List ℕ) (ws : List Value) → Told src toks out vs (no (s .opened) (state src toks s tr ws)) (Refused 14 s) tr
   told-deep : (s : State) (tr : List ℕ) (ws : List Value) → Told src toks out vs (deep (s .opened) (state src toks s tr ws)) (Refused 13 s) tr
 
 -- The answer is what the descent of the rule r comes to, from s on, with room for so many more E and Block, whatever values are at hand.
-pub record Rules (src toks : List ℕ) (room : ℕ) (r : Rule) (s : State) (tr : List ℕ) (a : Parsed) (tr′ : List ℕ) : Type 0 where
-  pub told : (vs : List Value) → Told src toks node vs (descend pyhyeon room r (s .opened) (state src toks s tr vs)) a tr′
+pub record Rules (src toks : List ℕ) (room : ℕ) (r : Rule) (out : Shape) (s : State) (tr : List ℕ) (a : Parsed) (tr′ : List ℕ) : Type 0 where
+  pub told : (vs : List Value) → Told src toks out vs (descend pyhyeon room r (s .opened) (state src toks s tr vs)) a tr′
 
 -- The answer is what the part p of a rule comes to, from s on, with the values ws at hand; where it is not refused, one value more than vs is left.
-pub record Comes (src toks : List ℕ) (room : ℕ) (p : Part Action Rule) (out : ℕ → Value) (vs ws : List Value) (s : State) (tr : List ℕ) (a : Parsed) (tr′ : List ℕ) : Type 0 where
+pub record Comes (src toks : List ℕ) (room : ℕ) (p : Part Action Rule) (out : Shape) (vs ws : List Value) (s : State) (tr : List ℕ) (a : Parsed) (tr′ : List ℕ) : Type 0 where
   pub told : Told src toks out vs (walk first (descend pyhyeon room) p (s .opened) (state src toks s tr ws)) a tr′
 
 -- The same where the values `ins` are at hand and any others below them.
-pub record Parts (src toks : List ℕ) (room : ℕ) (p : Part Action Rule) (ins : List Value) (out : ℕ → Value) (s : State) (tr : List ℕ) (a : Parsed) (tr′ : List ℕ) : Type 0 where
+pub record Parts (src toks : List ℕ) (room : ℕ) (p : Part Action Rule) (ins : List Value) (out : Shape) (s : State) (tr : List ℕ) (a : Parsed) (tr′ : List ℕ) : Type 0 where
   pub comes : (vs : List Value) → Comes src toks room p out vs (ins ++ vs) s tr a tr′
 
 -- what code needs at s, where no more than `more` rules were opened beyond ten a token
@@ -133,9 +146,9 @@ pub record Led (src toks : List ℕ) (room : ℕ) (p : Part Action Rule) (ins : 
   pub spare : s′ .nodes + 2 * s .at .0 ≤ s .nodes + 2 * s′ .at .0
   pub there : n .0 < s′ .nodes
   pub last : ℕ
-  pub same : (out : ℕ → Value) (q : Part Action Rule) (vs ws : List Value) {a : Parsed} {t : List ℕ} → Comes src toks room q out vs (growing (n .0) last ∷ ws) s′ tr′ a t → Comes src toks room (p ⨾ q) out vs (ins ++ ws) s tr a t
+  pub same : (out : Shape) (q : Part Action Rule) (vs ws : List Value) {a : Parsed} {t : List ℕ} → Comes src toks room q out vs (growing (n .0) last ∷ ws) s′ tr′ a t → Comes src toks room (p ⨾ q) out vs (ins ++ ws) s tr a t
 
 -- Code that reads the rest p of a list, whatever follows it.
 pub record Lists (src toks : List ℕ) (room : ℕ) (p : Part Action Rule) (ins : List Value) (s : State) (tr : List ℕ) (r : Parsed) (tr′ : List ℕ) : Type 0 where
   pub leads : (n : NodeNumber) (s′ : State) → r ≡ Node n s′ → Led src toks room p ins s tr n s′ tr′
-  pub stops : (out : ℕ → Value) (k : ℕ) (s′ : State) → r ≡ Refused k s′ → (q : Part Action Rule) (vs ws : List Value) → Comes src toks room (p ⨾ q) out vs (ins ++ ws) s tr (Refused k s′) tr′
+  pub stops : (out : Shape) (k : ℕ) (s′ : State) → r ≡ Refused k s′ → (q : Part Action Rule) (vs ws : List Value) → Comes src toks room (p ⨾ q) out vs (ins ++ ws) s tr (Refused k s′) tr′
