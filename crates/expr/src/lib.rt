@@ -147,12 +147,12 @@ fn rule_o(src: &[u8], toks: &[u32], tree: &mut [u32], left: u32, s: State) -> Pa
     };
     let inner = rule_a(src, toks, tree, left, up);
     match inner {
-        Parsed::Node(n, after) => more_o(src, toks, tree, left, n, after),
+        Parsed::Node(n, after) => mo(src, toks, tree, left, n, after),
         Parsed::Refused(code, after) => Parsed::Refused(code, after),
     }
 }
 
-fn more_o(
+fn mo(
     src: &[u8],
     toks: &[u32],
     tree: &mut [u32],
@@ -212,12 +212,12 @@ fn rule_a(src: &[u8], toks: &[u32], tree: &mut [u32], left: u32, s: State) -> Pa
     };
     let inner = rule_c(src, toks, tree, left, up);
     match inner {
-        Parsed::Node(n, after) => more_a(src, toks, tree, left, n, after),
+        Parsed::Node(n, after) => ma(src, toks, tree, left, n, after),
         Parsed::Refused(code, after) => Parsed::Refused(code, after),
     }
 }
 
-fn more_a(
+fn ma(
     src: &[u8],
     toks: &[u32],
     tree: &mut [u32],
@@ -318,7 +318,7 @@ fn cmp(
                 let made = leaves::put_binary(toks, tree, op, first, n, after);
                 let m = made.0;
                 let done = made.1;
-                cmp_more(src, toks, tree, left, m, n, done)
+                cmps(src, toks, tree, left, m, n, done)
             }
             Parsed::Refused(code, after) => Parsed::Refused(code, after),
         }
@@ -328,7 +328,7 @@ fn cmp(
 }
 
 // The further comparisons: `first` is the node of those so far, `newest` the last operand.
-fn cmp_more(
+fn cmps(
     src: &[u8],
     toks: &[u32],
     tree: &mut [u32],
@@ -394,12 +394,12 @@ fn rule_s(src: &[u8], toks: &[u32], tree: &mut [u32], left: u32, s: State) -> Pa
     };
     let inner = rule_p(src, toks, tree, left, up);
     match inner {
-        Parsed::Node(n, after) => more_s(src, toks, tree, left, n, after),
+        Parsed::Node(n, after) => ms(src, toks, tree, left, n, after),
         Parsed::Refused(code, after) => Parsed::Refused(code, after),
     }
 }
 
-fn more_s(
+fn ms(
     src: &[u8],
     toks: &[u32],
     tree: &mut [u32],
@@ -459,12 +459,12 @@ fn rule_p(src: &[u8], toks: &[u32], tree: &mut [u32], left: u32, s: State) -> Pa
     };
     let inner = rule_u(src, toks, tree, left, up);
     match inner {
-        Parsed::Node(n, after) => more_p(src, toks, tree, left, n, after),
+        Parsed::Node(n, after) => mp(src, toks, tree, left, n, after),
         Parsed::Refused(code, after) => Parsed::Refused(code, after),
     }
 }
 
-fn more_p(
+fn mp(
     src: &[u8],
     toks: &[u32],
     tree: &mut [u32],

@@ -27,7 +27,7 @@ use Rattle.leaves.specs.declared.State.{State}
 use Rattle.leaves.specs.declared.Parsed.{Parsed}
 use Rattle.leaves.specs.declared.Parsed.the-variants.{Node, Refused}
 use Rattle.leaves.specs.Tokens.{eofAt, textBefore, tokensOf, symbolAt}
-use Rattle.leaves.specs.Contract.{past, raised, kept, state, Shape, Told, told-node, told-no, told-deep, Rules, Comes, Parts}
+use Rattle.leaves.specs.Contract.{past, raised, kept, state, Shape, a-node, Told, told-node, told-no, told-deep, Rules, Comes, Parts}
 use Rattle.leaves.proofs.Tokens.{symbols-length, symbols-at, sees-at}
 
 -- the tables pass their test
@@ -313,6 +313,10 @@ module _ {src toks : List ℕ} {room : ℕ} {r : Rule} {out : Shape} {s : State}
   unfolding walk byD state
   called h e c = record { comes = λ vs. record { told = rw (sees-at src toks (first r) (s .at .0) h ∙ e) (c .told vs) } }
 
-  pub not-called : s .at .0 ≤ eofAt toks → mem (symbolAt src toks (s .at .0)) (first r) ≡ false → Parts src toks room (call r) [] out s tr (Refused 14 s) tr
+  pub no-call : s .at .0 ≤ eofAt toks → mem (symbolAt src toks (s .at .0)) (first r) ≡ false → Parts src toks room (call r) [] out s tr (Refused 14 s) tr
   unfolding walk byD state
-  not-called h e = record { comes = λ vs. record { told = rw (sees-at src toks (first r) (s .at .0) h ∙ e) (told-no s tr vs) } }
+  no-call h e = record { comes = λ vs. record { told = rw (sees-at src toks (first r) (s .at .0) h ∙ e) (told-no s tr vs) } }
+
+-- the same where more was to follow, and so any shape will do
+pub not-called : {src toks : List ℕ} {room : ℕ} {r : Rule} {s : State} {tr : List ℕ} → s .at .0 ≤ eofAt toks → mem (symbolAt src toks (s .at .0)) (first r) ≡ false → Parts src toks room (call r) [] a-node s tr (Refused 14 s) tr
+not-called = no-call
