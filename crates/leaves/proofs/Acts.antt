@@ -24,38 +24,38 @@ use Rattle.leaves.specs.Contract.{added, kept, Spot, Writes, Literals, C
 use Rattle.leaves.specs.Put.{Put}
 use Rattle.leaves.proofs.Tokens.{token-is}
 
+-- a node that was put is written
+pub put-is : {s : State} {tr tr′ : List ℕ} {a : Added} {n : Node} → 8 * s .nodes + 16 ≤ length tr → Put s tr n a tr′ → (i : ℕ) (ws : List Value) → write i n (kept s tr ws) ≡ kept (added s) tr′ (node (s .nodes) ∷ drop i ws)
+put-is {s} {tr} {n = n} room w i ws = rw (w .words, nodes-put tr (s .nodes) n room, length-nodes tr (s .nodes))
+
 module _ {toks tr : List ℕ} {s : State} (here : Spot toks tr s) where
   -- the token that was taken last, and one before it
-  taken-is : (src : List ℕ) → tokenAt src (tokensOf src toks) (s .at .0 - 1) ≡ tokenOf src toks (s .at .0 - 1)
+  pub taken-is : (src : List ℕ) → tokenAt src (tokensOf src toks) (s .at .0 - 1) ≡ tokenOf src toks (s .at .0 - 1)
   taken-is src = let l = here .last in token-is src toks (s .at .0 - 1) (omega arith)
 
-  earlier-is : (src : List ℕ) {o : ℕ} → o < s .at .0 → tokenAt src (tokensOf src toks) o ≡ tokenOf src toks o
+  pub earlier-is : (src : List ℕ) {o : ℕ} → o < s .at .0 → tokenAt src (tokensOf src toks) o ≡ tokenOf src toks o
   earlier-is src {o} h = let l = here .last in token-is src toks o (omega arith)
 
   -- from a token on, up to the token that was taken last
-  opened-is : (src : List ℕ) {kind o p q r f : ℕ} → o < s .at .0
+  pub opened-is : (src : List ℕ) {kind o p q r f : ℕ} → o < s .at .0
       → made kind (tokenAt src (tokensOf src toks) o .start) (tokenAt src (tokensOf src toks) (s .at .0 - 1) .end) p q r f ≡ made kind (startAt toks o) (endAt toks (s .at .0 - 1)) p q r f
   opened-is src {kind} {o} {p} {q} {r} {f} h =
       ap (λ (x : Token). made kind (x .start) (tokenAt src (tokensOf src toks) (s .at .0 - 1) .end) p q r f) (earlier-is src h)
       ∙ ap (λ (x : Token). made kind (startAt toks o) (x .end) p q r f) (taken-is src)
 
   -- from the start of a node on
-  begun-is : (src : List ℕ) {kind x p q r : ℕ} → x < s .nodes
+  pub begun-is : (src : List ℕ) {kind x p q r : ℕ} → x < s .nodes
       → made kind (getD (nodesOf tr (s .nodes)) x blank .start) (tokenAt src (tokensOf src toks) (s .at .0 - 1) .end) p q r 0 ≡ made kind (nodeAt tr x .start) (endAt toks (s .at .0 - 1)) p q r 0
   begun-is src {kind} {x} {p} {q} {r} h =
       ap (λ (n : Node). made kind (n .start) (tokenAt src (tokensOf src toks) (s .at .0 - 1) .end) p q r 0) (node-there tr (s .nodes) x h)
       ∙ ap (λ (t : Token). made kind (nodeAt tr x .start) (t .end) p q r 0) (taken-is src)
 
   module _ {tr′ : List ℕ} {a : Added} where
-    -- a node that was put is written
-    put-is : {n : Node} → Put s tr n a tr′ → (i : ℕ) (ws : List Value) → write i n (kept s tr ws) ≡ kept (added s) tr′ (node (s .nodes) ∷ drop i ws)
-    put-is {n} w i ws = rw (w .words, nodes-put tr (s .nodes) n (here .word), length-nodes tr (s .nodes))
-
     -- a node of the machine's that is the one that was put
-    as-put : {n m : Node} → m ≡ n → Put s tr n a tr′ → (i : ℕ) (ws : List Value) → write i m (kept s tr ws) ≡ kept (added s) tr′ (node (s .nodes) ∷ drop i ws)
-    as-put e w i ws = ap (λ (x : Node). write i x (kept s tr ws)) e ∙ put-is w i ws
+    pub as-put : {n m : Node} → m ≡ n → Put s tr n a tr′ → (i : ℕ) (ws : List Value) → write i m (kept s tr ws) ≡ kept (added s) tr′ (node (s .nodes) ∷ drop i ws)
+    as-put e w i ws = ap (λ (x : Node). write i x (kept s tr ws)) e ∙ put-is (here .word) w i ws
 
-    writes : (src : List ℕ) {x : Action} {ins : List Value} {n : Node} → Put s tr n a tr′
+    pub writes : (src : List ℕ) {x : Action} {ins : List Value} {n : Node} → Put s tr n a tr′
         → ((vs : List Value) → perform src (tokensOf src toks) x (kept s tr (ins ++ vs)) ≡ kept (added s) tr′ (node (s .nodes) ∷ vs)) → Writes src toks x ins s tr a tr′
     writes src w e = record { node = w .node; after = w .after; same = e }
 

@@ -31,13 +31,16 @@ pub use signs::skip_signs;
 pub use signs::wrap;
 use token::NodeNumber;
 use token::TokenNumber;
+pub use write::add;
 pub use write::put_apply;
 pub use write::put_attribute;
+pub use write::put_begun;
 pub use write::put_empty;
 pub use write::put_enclosed;
 pub use write::put_index;
 pub use write::put_lambda;
 pub use write::put_named;
+pub use write::put_opened;
 pub use write::put_pair;
 pub use write::put_tuple;
 

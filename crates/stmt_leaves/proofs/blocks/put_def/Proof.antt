@@ -1,0 +1,30 @@
+-- `stmt_leaves::put_def` does the action `define`.
+-- Assumes nothing.
+use mathlib.Core.Path.{refl}
+use Rattle.pyhyeon.specs.Machine.{number}
+use Rattle.pyhyeon.specs.Action.{perform}
+use Rattle.leaves.proofs.Acts.{put-with}
+use Rattle.stmt_leaves.proofs.Acts.{called-wrote}
+use borrow.Author.Needs.{needs}
+use Rattle.stmt_leaves.proofs.blocks.put_def.Statement.{statement}
+use Rattle.stmt_leaves.proofs.blocks.put_def.Tie as tie
+
+start-at-requires : tie.Need-start-at-requires
+start-at-requires c κs = search needs
+
+end-at-requires : tie.Need-end-at-requires
+end-at-requires c κs = search needs
+
+put-opened-requires : tie.Need-put-opened-requires
+put-opened-requires c κs = search needs
+
+same-length : tie.Need-same-length
+same-length c = search needs
+
+returns : tie.Need-returns
+unfolding perform number
+returns c src = let start = c .before .before .before .before .before .before .before .before in called-wrote (start .pre .0) src (put-with (c .before .before .before .before .before .start-at .ensures) (c .before .before .before .before .end-at .ensures) refl (c .before .before .put-opened .ensures)) (start .pre .1 .0) (start .pre .1 .1) (λ vs. refl)
+
+pub put-def-spec : {M : Type 1} → statement M
+put-def-spec =
+    tie.close (tie.spec start-at-requires end-at-requires put-opened-requires same-length returns)

@@ -1,0 +1,20 @@
+// The leaves of the statements' rules (src/parser/mod.rs): the function of each action that writes a statement's node, and what begins a
+// statement. Their contracts are those of the other leaves: specs/Contract.antt there.
+mod blocks;
+mod sets;
+mod simple;
+
+pub use blocks::put_class;
+pub use blocks::put_def;
+pub use blocks::put_elif;
+pub use blocks::put_else;
+pub use blocks::put_for;
+pub use blocks::put_if;
+pub use blocks::put_program;
+pub use blocks::put_while;
+pub use sets::begins_line;
+pub use sets::begins_simple;
+pub use simple::put_alone;
+pub use simple::put_assign;
+pub use simple::put_expr;
+pub use simple::put_return;
