@@ -5,12 +5,11 @@ use mathlib.Core.List.{List, [], _∷_, _++_}
 use Prim.Native.Nat.{ℕ, _+_, _*_, _≤_, _<_}
 use native.Mathlib.Omega.{arith}
 use lib.ListN.{length}
-use Rattle.grammar.specs.Grammar.{Part, tail, _⨾_}
-use Rattle.token.specs.Code.{Comma}
+use Rattle.grammar.specs.Grammar.{Part, _⨾_}
 use Rattle.token.specs.declared.NodeNumber.{NodeNumber}
 use Rattle.pyhyeon.specs.Machine.{Value, node, growing}
 use Rattle.pyhyeon.specs.Action.{Action}
-use Rattle.pyhyeon.specs.Rules.{Rule, more}
+use Rattle.pyhyeon.specs.Rules.{Rule}
 use Rattle.leaves.specs.declared.State.{State}
 use Rattle.leaves.specs.declared.Parsed.{Parsed}
 use Rattle.leaves.specs.declared.Parsed.the-variants.{Node, Refused}
@@ -33,7 +32,7 @@ pub record Going (src toks : List ℕ) (extra room : ℕ) (p : Part Action Rule)
 pub begin : {src toks : List ℕ} {extra room : ℕ} {p : Part Action Rule} {v : List Value} {n : ℕ} {s : State} {tr : List ℕ} → Ready src toks tr s extra → n < s .nodes → Going src toks extra room p v s tr v n s tr
 begin r l = record { ready = r; on = omega arith; long = refl; node = l; same = λ vs c. c }
 
--- the same for the rest of a list of members p, whatever follows it: the first node is `first`, and so far the last is `last`
+-- the same for the rest p of a list, whatever follows it: the first node is `first`, and so far the last is `last`
 pub record Listing (src toks : List ℕ) (room : ℕ) (p : Part Action Rule) (first last₀ : ℕ) (s₀ : State) (tr₀ : List ℕ) (last : ℕ) (s : State) (tr : List ℕ) : Type 0 where
   pub ready : Ready src toks tr s 1
   pub on : s₀ .at .0 ≤ s .at .0
@@ -41,8 +40,8 @@ pub record Listing (src toks : List ℕ) (room : ℕ) (p : Part Action Rule) (fi
   pub spare : s .nodes + 2 * s₀ .at .0 ≤ s₀ .nodes + 2 * s .at .0
   pub long : length tr ≡ length tr₀
   pub node : last < s .nodes
-  pub same : (out : Shape) (q : Part Action Rule) (vs ws : List Value) {a : Parsed} {t : List ℕ} → Comes src toks room (tail Comma (more p) ⨾ q) out vs (growing first last ∷ ws) s tr a t →
-      Comes src toks room (tail Comma (more p) ⨾ q) out vs (growing first last₀ ∷ ws) s₀ tr₀ a t
+  pub same : (out : Shape) (q : Part Action Rule) (vs ws : List Value) {a : Parsed} {t : List ℕ} → Comes src toks room (p ⨾ q) out vs (growing first last ∷ ws) s tr a t →
+      Comes src toks room (p ⨾ q) out vs (growing first last₀ ∷ ws) s₀ tr₀ a t
 
 pub begin-list : {src toks : List ℕ} {room : ℕ} {p : Part Action Rule} {first last : ℕ} {s : State} {tr : List ℕ} → Ready src toks tr s 1 → last < s .nodes → Listing src toks room p first last s tr last s tr
 begin-list r l = record { ready = r; on = omega arith; kept = omega arith; spare = omega arith; long = refl; node = l; same = λ out q vs ws c. c }

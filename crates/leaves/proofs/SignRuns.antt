@@ -16,26 +16,26 @@ use Rattle.leaves.specs.declared.Added.{Added}
 use Rattle.leaves.specs.declared.State.{State}
 use Rattle.leaves.specs.Tokens.{eofAt, tokensOf, symbolAt}
 use Rattle.leaves.specs.Contract.{added, kept, Signed, Wraps}
-use Rattle.leaves.specs.Put.{Signs}
+use Rattle.leaves.specs.Put.{Run}
 
--- the tokens from t up to k are signs
-pub record Passed (src toks : List ℕ) (t k : ℕ) : Type 0 where
+-- the tokens from t up to k are in the set
+pub record Passed (src toks set : List ℕ) (t k : ℕ) : Type 0 where
   pub order : t ≤ k
   pub inside : k ≤ eofAt toks
-  pub each : (j : ℕ) → t ≤ j → j < k → mem (symbolAt src toks j) (Not ∷ Minus ∷ Plus ∷ []) ≡ true
+  pub each : (j : ℕ) → t ≤ j → j < k → mem (symbolAt src toks j) set ≡ true
 
-module _ {src toks : List ℕ} {t : ℕ} where
-  pub pass-none : t ≤ eofAt toks → Passed src toks t t
+module _ {src toks set : List ℕ} {t : ℕ} where
+  pub pass-none : t ≤ eofAt toks → Passed src toks set t t
   pass-none h = record { order = omega arith; inside = h; each = λ j a b. absurd (omega arith) }
 
-  pub pass-one : {k : ℕ} → Passed src toks t k → k < eofAt toks → mem (symbolAt src toks k) (Not ∷ Minus ∷ Plus ∷ []) ≡ true → Passed src toks t (k + 1)
+  pub pass-one : {k : ℕ} → Passed src toks set t k → k < eofAt toks → mem (symbolAt src toks k) set ≡ true → Passed src toks set t (k + 1)
   pass-one {k} p l e = record { order = omega (arith, p .order); inside = omega arith; each = λ j a b. go j a b (decLt j k) }
     where
-      go : (j : ℕ) → t ≤ j → j < k + 1 → Dec (j < k) → mem (symbolAt src toks j) (Not ∷ Minus ∷ Plus ∷ []) ≡ true
+      go : (j : ℕ) → t ≤ j → j < k + 1 → Dec (j < k) → mem (symbolAt src toks j) set ≡ true
       go j a b (yes h) = p .each j a h
       go j a b (no h) = let d : j ≡ k = omega arith in rw d e
 
-  pub pass-all : {k : ℕ} → Passed src toks t k → mem (symbolAt src toks k) (Not ∷ Minus ∷ Plus ∷ []) ≡ false → Signs src toks t k
+  pub pass-all : {k : ℕ} → Passed src toks set t k → mem (symbolAt src toks k) set ≡ false → Run src toks set t k
   pass-all p e = record { order = p .order; inside = p .inside; each = p .each; stop = e }
 
 -- The loop of `wrap`: the signs before k around the node n come to what all the signs come to around the first node.

@@ -1,4 +1,4 @@
--- For contracts of the leaves alone: a node that was put behind the others, the text of a literal, and a run of signs.
+-- For contracts of the leaves alone: a node that was put behind the others, the text of a literal, and a run of tokens.
 -- Assumes nothing.
 use Prim.Native.Nat.{ℕ, _≤_, _<_}
 use mathlib.Core.Path.{_≡_}
@@ -29,9 +29,13 @@ textLength (L.String at len) = len
 textLength (L.Float x) = 0
 textLength L.None = 0
 
--- the tokens from t on, up to `end`, are signs, and that one is none
-pub record Signs (src toks : List ℕ) (t end : ℕ) : Type 0 where
+-- the tokens from t on, up to `end`, are in the set, and that one is not
+pub record Run (src toks set : List ℕ) (t end : ℕ) : Type 0 where
   pub order : t ≤ end
   pub inside : end ≤ eofAt toks
-  pub each : (k : ℕ) → t ≤ k → k < end → mem (symbolAt src toks k) (Not ∷ Minus ∷ Plus ∷ []) ≡ true
-  pub stop : mem (symbolAt src toks end) (Not ∷ Minus ∷ Plus ∷ []) ≡ false
+  pub each : (k : ℕ) → t ≤ k → k < end → mem (symbolAt src toks k) set ≡ true
+  pub stop : mem (symbolAt src toks end) set ≡ false
+
+-- the signs of U
+abbrev pub signSet : List ℕ
+signSet = Not ∷ Minus ∷ Plus ∷ []

@@ -3,7 +3,7 @@ ghost use mathlib.Core.List.{List};
 ghost use Prim.Native.Nat.{ℕ, _≤_, _<_};
 ghost use Rattle.leaves.specs.Tokens.{eofAt, Tokens};
 ghost use Rattle.leaves.specs.Contract.{Spot, Signed, Wraps, Wrapping};
-ghost use Rattle.leaves.specs.Put.{Signs};
+ghost use Rattle.leaves.specs.Put.{Run, signSet};
 use crate::Added;
 use crate::State;
 use crate::read::code_at;
@@ -17,7 +17,7 @@ use token::TokenNumber;
 pub fn skip_signs(src: &[u8], toks: &[u32], at: TokenNumber) -> TokenNumber
     requires { ⌜ Tokens (now src) (now toks) ⌝ }
     requires { ⌜ at .0 ≤ eofAt (now toks) ⌝ }
-    ensures { λ r. ⌜ Signs (now (src .entry)) (now (toks .entry)) (at .0) (r .0) ⌝ }
+    ensures { λ r. ⌜ Run (now (src .entry)) (now (toks .entry)) signSet (at .0) (r .0) ⌝ }
 {
     let mut t = at;
     while is_sign(symbol_at(src, toks, t)) {

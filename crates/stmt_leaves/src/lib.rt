@@ -1,6 +1,7 @@
 // The leaves of the statements' rules (src/parser/mod.rs): the function of each action that writes a statement's node, and what begins a
 // statement. Their contracts are those of the other leaves: specs/Contract.antt there.
 mod blocks;
+mod newlines;
 mod sets;
 mod simple;
 
@@ -12,6 +13,7 @@ pub use blocks::put_for;
 pub use blocks::put_if;
 pub use blocks::put_program;
 pub use blocks::put_while;
+pub use newlines::skip_newlines;
 pub use sets::begins_line;
 pub use sets::begins_simple;
 pub use simple::put_alone;

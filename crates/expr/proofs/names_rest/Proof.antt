@@ -1,8 +1,10 @@
 -- `expr::names_rest` meets its contract: the rest of a list of names.
 -- Assumes nothing.
 use Rattle.expr.specs.Parts.{name}
+use Rattle.grammar.specs.Grammar.{tail}
+use Rattle.token.specs.Code.{Comma}
 use Rattle.leaves.specs.Tokens.{eofAt}
-use Rattle.pyhyeon.specs.Rules.{names}
+use Rattle.pyhyeon.specs.Rules.{names, more}
 use Prim.Native.Nat.{ℕ, _-_}
 use Rattle.expr.proofs.Low.{low-names}
 use Rattle.joint.proofs.Loops.{Listing, begin-list, ready-of}
@@ -20,7 +22,7 @@ use Rattle.expr.proofs.names_rest.Statement.{statement}
 use Rattle.expr.proofs.names_rest.Tie as tie
 
 abbrev Inv-loop : tie.InvT-loop
-Inv-loop src toks tree₀ first last₀ st₀ tree last st = (room : ℕ) → Listing src toks room name (first .0) (last₀ .0) st₀ tree₀ (last .0) st tree
+Inv-loop src toks tree₀ first last₀ st₀ tree last st = (room : ℕ) → Listing src toks room (tail Comma (more name)) (first .0) (last₀ .0) st₀ tree₀ (last .0) st tree
 
 abbrev μ-loop : tie.MeasureT-loop
 μ-loop src toks tree₀ first last₀ st₀ tree last st = eofAt toks - st .at .0

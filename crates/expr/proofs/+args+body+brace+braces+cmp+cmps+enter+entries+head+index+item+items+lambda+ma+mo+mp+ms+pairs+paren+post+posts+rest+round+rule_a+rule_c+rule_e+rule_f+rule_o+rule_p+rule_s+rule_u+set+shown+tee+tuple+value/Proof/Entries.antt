@@ -2,6 +2,7 @@
 -- Assumes nothing.
 use Rattle.leaves.specs.Tokens.{eofAt}
 use Rattle.pyhyeon.specs.Rules.{entry}
+use Rattle.expr.specs.Parts.{entries}
 use Rattle.expr.proofs.Low.{bounded-entry}
 use Prim.Native.Nat.{_-_}
 use Rattle.expr.proofs.Low.{low-entries}
@@ -33,7 +34,7 @@ abbrev calls : ℕ → lts.Claims
 calls t = (symbol-at-reads.Asked, symbol-at-reads.Learnt, is-symbol-reads.Asked, is-symbol-reads.Learnt, begins-e-reads.Asked, begins-e-reads.Learnt, item-below t, item.Post, link-reads.Asked, link-reads.Learnt)
 
 abbrev Inv-loop : lts.InvT-loop
-Inv-loop src toks tree₀ left first last₀ st₀ tree last st = Listing src toks left entry (first .0) (last₀ .0) st₀ tree₀ (last .0) st tree
+Inv-loop src toks tree₀ left first last₀ st₀ tree last st = Listing src toks left entries (first .0) (last₀ .0) st₀ tree₀ (last .0) st tree
 
 abbrev μ-loop : lts.MeasureT-loop
 μ-loop src toks tree₀ left first last₀ st₀ tree last st = eofAt toks - st .at .0

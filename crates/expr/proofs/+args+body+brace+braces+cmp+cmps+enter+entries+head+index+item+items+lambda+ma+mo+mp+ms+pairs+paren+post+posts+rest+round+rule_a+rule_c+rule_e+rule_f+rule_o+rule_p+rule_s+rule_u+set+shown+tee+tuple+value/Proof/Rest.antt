@@ -2,6 +2,7 @@
 -- Assumes nothing.
 use Rattle.leaves.specs.Tokens.{eofAt}
 use Rattle.pyhyeon.specs.Rules.{E}
+use Rattle.expr.specs.Parts.{others}
 use Prim.Native.Nat.{_-_}
 use Rattle.expr.proofs.Low.{low-others}
 use Rattle.joint.proofs.Loops.{Listing, begin-list, lists-node, lists-stop, ready-of}
@@ -32,7 +33,7 @@ abbrev calls : ℕ → lts.Claims
 calls t = (symbol-at-reads.Asked, symbol-at-reads.Learnt, is-symbol-reads.Asked, is-symbol-reads.Learnt, begins-e-reads.Asked, begins-e-reads.Learnt, rule-e-below t, rule-e.Post, link-reads.Asked, link-reads.Learnt)
 
 abbrev Inv-loop : lts.InvT-loop
-Inv-loop src toks tree₀ left first last₀ st₀ tree last st = Listing src toks left (call E) (first .0) (last₀ .0) st₀ tree₀ (last .0) st tree
+Inv-loop src toks tree₀ left first last₀ st₀ tree last st = Listing src toks left others (first .0) (last₀ .0) st₀ tree₀ (last .0) st tree
 
 abbrev μ-loop : lts.MeasureT-loop
 μ-loop src toks tree₀ left first last₀ st₀ tree last st = eofAt toks - st .at .0

@@ -1,6 +1,7 @@
 -- `expr::rule_u`, a member of the cycle.
 -- Assumes nothing.
-use Rattle.joint.proofs.Passing.{signs-pass, signs-text}
+use Rattle.joint.proofs.Passing.{signs-pass, run-text}
+use Rattle.leaves.specs.Put.{signSet}
 use Rattle.joint.proofs.Loops.{ready-of}
 use Rattle.joint.proofs.Ends.{act-wrapped, signs-then}
 use Rattle.joint.proofs.Chain.{called, not-called, part-then, part-stop, open-plain}
@@ -53,7 +54,7 @@ module _ (t : ℕ) where
       let at-start = at-skip-signs .before .before .before .before .before .before in
       let r = at-start .pre .1 .0 in
       let k = at-skip-signs .skip-signs .ensures in
-      let q = signs-text (r .tokens) k in
+      let q = run-text signSet refl refl (r .tokens) k in
       let e = learnt firstF (at-if1 .if1 .taken) (at-begins-f .begins-f .ensures) (at-symbol-at .symbol-at .ensures) in
       (omega arith, (ready-of (r .tokens) (omega arith), record { seen = e }))
 

@@ -2,11 +2,10 @@
 -- there are before Eof.
 -- Assumes nothing.
 use mathlib.Core.Path.{refl}
-use mathlib.Core.List.{List, [], _∷_}
 use Prim.Native.Nat.{ℕ, _-_, _<_}
 use native.Mathlib.Omega.{arith}
 use borrow.Author.Needs.{needs}
-use Rattle.token.specs.Code.{Not, Minus, Plus}
+use Rattle.leaves.specs.Put.{signSet}
 use Rattle.leaves.specs.Tokens.{eofAt}
 use Rattle.leaves.proofs.Tests.{learnt}
 use Rattle.leaves.proofs.Tokens.{before-eof}
@@ -15,19 +14,16 @@ use Rattle.leaves.proofs.signs.skip_signs.Statement.{statement}
 use Rattle.leaves.proofs.signs.skip_signs.Tie as tie
 
 abbrev Inv-loop : tie.InvT-loop
-Inv-loop src toks t₀ t = Passed src toks (t₀ .0) (t .0)
+Inv-loop src toks t₀ t = Passed src toks signSet (t₀ .0) (t .0)
 
 abbrev μ-loop : tie.MeasureT-loop
 μ-loop src toks t₀ t = eofAt toks - t .0
-
-abbrev signs : List ℕ
-signs = Not ∷ Minus ∷ Plus ∷ []
 
 early : (c : tie.Then1 Inv-loop μ-loop) → c .before .before .before .loop .t .0 < eofAt (c .before .before .before .before .before .before .args .toks .now)
 early c =
     let b = c .before .before in
     let l = b .before .loop in
-    before-eof signs refl (b .before .before .before .before .pre .0) (l .inv .inside) (learnt signs (c .if1 .taken) (c .before .is-sign .ensures) (b .symbol-at .ensures))
+    before-eof signSet refl (b .before .before .before .before .pre .0) (l .inv .inside) (learnt signSet (c .if1 .taken) (c .before .is-sign .ensures) (b .symbol-at .ensures))
 
 loop-holds : tie.Need-loop-holds Inv-loop μ-loop
 loop-holds c = pass-none (c .before .before .pre .1)
@@ -50,12 +46,12 @@ loop-less c = omega (arith, early c)
 loop-again : tie.Need-loop-again Inv-loop μ-loop
 loop-again c =
     let b = c .before .before in
-    pass-one (b .before .loop .inv) (early c) (learnt signs (c .if1 .taken) (c .before .is-sign .ensures) (b .symbol-at .ensures))
+    pass-one (b .before .loop .inv) (early c) (learnt signSet (c .if1 .taken) (c .before .is-sign .ensures) (b .symbol-at .ensures))
 
 returns : tie.Need-returns Inv-loop μ-loop
 returns c =
     let b = c .before .before in
-    pass-all (b .before .loop .inv) (learnt signs (c .if1 .left) (c .before .is-sign .ensures) (b .symbol-at .ensures))
+    pass-all (b .before .loop .inv) (learnt signSet (c .if1 .left) (c .before .is-sign .ensures) (b .symbol-at .ensures))
 
 pub skip-signs-spec : {M : Type 1} → statement M
 skip-signs-spec =

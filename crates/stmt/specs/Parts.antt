@@ -1,0 +1,80 @@
+-- Parts of the rules that a function has for itself. Only contracts cite these: each is a part of a rule's body (specs/Tables.antt of the grammar).
+-- Assumes nothing.
+use Prim.Native.Nat.{ℕ}
+use mathlib.Core.List.{[], _∷_}
+use Rattle.grammar.specs.Grammar.{Part, act, see, call, _⨾_, _∕_, many}
+use Rattle.token.specs.Code.{Elif, Else, In, LParen, RParen, Colon, Indent, Dedent, Newline, Eof}
+use Rattle.ast.specs.Kind as kind
+use Rattle.pyhyeon.specs.Action.{Action, mark, list-none, list-one, list-join, list-done, branch, elif, else, while, for, define, class, program}
+use Rattle.pyhyeon.specs.Rules.{Rule, Line, Block, E, tk, called, more, parameters, newlines, definition, elifs}
+use Rattle.pyhyeon.specs.Tables.{linesOn}
+use Rattle.leaves.specs.declared.State.{State}
+
+-- "fed the source and its tokens": no token taken, no node written, no rule opened
+abbrev pub start : State
+start = record { at = record { 0 = 0 }; nodes = 0; opened = 0; used = 0 }
+
+-- the Lines after the first of them
+abbrev pub linesRest : Part Action Rule
+linesRest = many (call Line ⨾ newlines ⨾ act list-join) ⨾ act list-done
+
+-- what stands between Indent and Dedent; and with these two
+abbrev pub inner : Part Action Rule
+inner = newlines ⨾ linesOn ∕ act list-none
+
+abbrev pub indentedOn : Part Action Rule
+indentedOn = tk Indent ⨾ inner ⨾ tk Dedent
+
+-- a Class's Dedent; its Methods after the first; from its Indent on; after its name
+abbrev pub classEnd : Part Action Rule
+classEnd = tk Dedent ⨾ act class
+
+abbrev pub methodsRest : Part Action Rule
+methodsRest = many (more (definition kind.Method)) ⨾ act list-done ⨾ classEnd
+
+abbrev pub methodsOn : Part Action Rule
+methodsOn = tk Indent ⨾ definition kind.Method ⨾ act list-one ⨾ methodsRest
+
+abbrev pub classOn : Part Action Rule
+classOn = tk Colon ⨾ tk Newline ⨾ newlines ⨾ methodsOn
+
+-- a Def or Method after its opening parenthesis, and after its keyword
+abbrev pub givenOn : ℕ → Part Action Rule
+givenOn k = parameters ⨾ tk RParen ⨾ call Block ⨾ act (define k)
+
+abbrev pub namedOn : ℕ → Part Action Rule
+namedOn k = called ⨾ tk LParen ⨾ givenOn k
+
+-- an If after its keyword, and after its first Block; its Elifs; those after the first; its Else
+abbrev pub elifsRest : Part Action Rule
+elifsRest = many (elifs ⨾ act list-join) ⨾ act list-done
+
+abbrev pub elifsOn : Part Action Rule
+elifsOn = elifs ⨾ elifsRest ∕ act list-none
+
+abbrev pub elseOn : Part Action Rule
+elseOn = tk Else ⨾ act mark ⨾ call Block ⨾ act else ⨾ act list-one ⨾ act list-done ∕ act list-none
+
+abbrev pub branches : Part Action Rule
+branches = elifsOn ⨾ elseOn ⨾ act branch
+
+abbrev pub ifOn : Part Action Rule
+ifOn = call E ⨾ call Block ⨾ branches
+
+-- one Elif, as a node
+abbrev pub elifOn : Part Action Rule
+elifOn = tk Elif ⨾ act mark ⨾ call E ⨾ call Block ⨾ act elif
+
+-- a While and a For after their keywords, and the For after `in`
+abbrev pub whileOn : Part Action Rule
+whileOn = call E ⨾ call Block ⨾ act while
+
+abbrev pub rangeOn : Part Action Rule
+rangeOn = call E ⨾ call Block ⨾ act for
+
+abbrev pub forOn : Part Action Rule
+forOn = called ⨾ tk In ⨾ rangeOn
+
+-- the end of a script
+abbrev pub programEnd : Part Action Rule
+programEnd = see (Eof ∷ []) ⨾ act program

@@ -1,0 +1,806 @@
+// The statements of the language (src/parser/mod.rs): the rules Line, Block and Class, which open each other, and Program above them. Each rule is
+// one function that takes the running count of openings, raises it by one before it reads a token, and hands it on in every answer. The other
+// functions read parts of rules, and open nothing.
+//
+// Contracts are those of the expressions: `Rules` for a rule, `Parts` for a part of one. A Line gives a list in the making (`a-growing`), a Block
+// a list.
+ghost use mathlib.Core.Path.{_≡_};
+ghost use mathlib.Core.Bool.{true};
+ghost use mathlib.Core.List.{List, [], _∷_};
+ghost use Prim.Native.Nat.{ℕ, _+_, _-_, _*_, _<_, _≤_};
+ghost use lib.ListN.{length};
+ghost use Rattle.grammar.specs.Sets.{mem};
+ghost use Rattle.grammar.specs.Grammar.{call};
+ghost use Rattle.token.specs.Code.{Elif, Dedent};
+ghost use Rattle.ast.specs.Kind as kind;
+ghost use Rattle.pyhyeon.specs.Machine.{token, node, growing, list};
+ghost use Rattle.pyhyeon.specs.Rules.{Line, Block, Class, tk};
+ghost use Rattle.pyhyeon.specs.Rules as rules;
+ghost use Rattle.pyhyeon.specs.Tables.{linesOn};
+ghost use Rattle.leaves.specs.Tokens.{eofAt, textBefore, symbolAt, Tokens};
+ghost use Rattle.leaves.specs.Contract.{a-node, a-list, a-growing, Rules, Parts, Ready, Begun};
+ghost use Rattle.simple.specs.Parts.{Newest};
+ghost use Rattle.stmt.specs.Parts.{linesRest, inner, indentedOn, classOn, methodsOn, methodsRest, classEnd, namedOn, givenOn, elifsOn, elifsRest, elseOn, branches, ifOn, elifOn, whileOn, rangeOn, forOn};
+mod program;
+
+use leaves::Parsed;
+use leaves::State;
+pub use program::program;
+use token::NodeNumber;
+use token::TokenNumber;
+
+// "at most 64 E and Block open at once" (01, Questions).
+pub const DEPTH: u32 = 64;
+
+// Line: class, def, if, while, for, or simples.
+fn rule_line(src: &[u8], toks: &[u32], tree: &mut [u32], left: u32, s: State) -> Parsed
+    requires { ⌜ Ready (now src) (now toks) (now tree) s 1 ⌝ }
+    requires { ⌜ Begun (now src) (now toks) s Line ⌝ }
+    ensures { λ r. ⌜ Rules (now (src .entry)) (now (toks .entry)) left Line a-growing s (now (tree .entry)) r (now (tree .exit)) ⌝ }
+{
+    let at = s.at;
+    let opened = s.opened + 1;
+    let up = State {
+        at: at,
+        nodes: s.nodes,
+        opened: opened,
+        used: s.used,
+    };
+    let t = at.0 + 1;
+    let on = State {
+        at: TokenNumber(t),
+        nodes: s.nodes,
+        opened: opened,
+        used: s.used,
+    };
+    match leaves::symbol_at(src, toks, at) {
+        token::CLASS => rule_class(src, toks, tree, left, up),
+        token::DEF => named(src, toks, tree, left, ast::DEF, at, on),
+        token::IF => cond(src, toks, tree, left, at, on),
+        token::WHILE => again(src, toks, tree, left, at, on),
+        token::FOR => each(src, toks, tree, left, at, on),
+        _ => simple::simples(src, toks, tree, left, up),
+    }
+}
+
+// Block, opened at its colon: one or more Newlines, Indent, Lines, Dedent; or simples. Room is asked for before the opening counts.
+fn rule_block(src: &[u8], toks: &[u32], tree: &mut [u32], left: u32, s: State) -> Parsed
+    requires { ⌜ Ready (now src) (now toks) (now tree) s 9 ⌝ }
+    requires { ⌜ Begun (now src) (now toks) s Block ⌝ }
+    ensures { λ r. ⌜ Rules (now (src .entry)) (now (toks .entry)) left Block a-list s (now (tree .entry)) r (now (tree .exit)) ⌝ }
+{
+    if left == 0 {
+        Parsed::Refused(13, s)
+    } else {
+        let room = left - 1;
+        let opened = s.opened + 1;
+        let t = s.at.0 + 1;
+        let next = TokenNumber(t);
+        let on = State {
+            at: next,
+            nodes: s.nodes,
+            opened: opened,
+            used: s.used,
+        };
+        if leaves::is_symbol(leaves::symbol_at(src, toks, next), token::NEWLINE) {
+            let u = t + 1;
+            let line = stmt_leaves::skip_newlines(src, toks, TokenNumber(u));
+            let below = State {
+                at: line,
+                nodes: s.nodes,
+                opened: opened,
+                used: s.used,
+            };
+            indented(src, toks, tree, room, below)
+        } else {
+            simple::simples(src, toks, tree, room, on)
+        }
+    }
+}
+
+// A Block, if the token there can begin one.
+fn block(src: &[u8], toks: &[u32], tree: &mut [u32], left: u32, s: State) -> Parsed
+    requires { ⌜ Ready (now src) (now toks) (now tree) s 9 ⌝ }
+    ensures { λ r. ⌜ Parts (now (src .entry)) (now (toks .entry)) left (call Block) [] a-list s (now (tree .entry)) r (now (tree .exit)) ⌝ }
+{
+    let at = s.at;
+    if leaves::is_symbol(leaves::symbol_at(src, toks, at), token::COLON) {
+        rule_block(src, toks, tree, left, s)
+    } else {
+        Parsed::Refused(14, s)
+    }
+}
+
+// Indent, Lines or none, Dedent.
+fn indented(src: &[u8], toks: &[u32], tree: &mut [u32], left: u32, s: State) -> Parsed
+    requires { ⌜ Ready (now src) (now toks) (now tree) s 1 ⌝ }
+    ensures { λ r. ⌜ Parts (now (src .entry)) (now (toks .entry)) left indentedOn [] a-list s (now (tree .entry)) r (now (tree .exit)) ⌝ }
+{
+    let at = s.at;
+    if leaves::is_symbol(leaves::symbol_at(src, toks, at), token::INDENT) {
+        let t = at.0 + 1;
+        let on = State {
+            at: TokenNumber(t),
+            nodes: s.nodes,
+            opened: s.opened,
+            used: s.used,
+        };
+        let body = inside(src, toks, tree, left, on);
+        match body {
+            Parsed::Node(n, after) => dedent(src, toks, n, after),
+            Parsed::Refused(code, after) => Parsed::Refused(code, after),
+        }
+    } else {
+        Parsed::Refused(14, s)
+    }
+}
+
+// Lines with Newlines before them, or nothing.
+fn inside(src: &[u8], toks: &[u32], tree: &mut [u32], left: u32, s: State) -> Parsed
+    requires { ⌜ Ready (now src) (now toks) (now tree) s 1 ⌝ }
+    ensures { λ r. ⌜ Parts (now (src .entry)) (now (toks .entry)) left inner [] a-list s (now (tree .entry)) r (now (tree .exit)) ⌝ }
+{
+    let at = s.at;
+    let line = stmt_leaves::skip_newlines(src, toks, at);
+    let on = State {
+        at: line,
+        nodes: s.nodes,
+        opened: s.opened,
+        used: s.used,
+    };
+    if line.0 != at.0 {
+        lines(src, toks, tree, left, on)
+    } else {
+        if stmt_leaves::begins_line(leaves::symbol_at(src, toks, at)) {
+            lines(src, toks, tree, left, on)
+        } else {
+            Parsed::Node(NodeNumber(ast::NONE_NODE), s)
+        }
+    }
+}
+
+// Lines each with Newlines after it: at least one. The answer's node is the first.
+fn lines(src: &[u8], toks: &[u32], tree: &mut [u32], left: u32, s: State) -> Parsed
+    requires { ⌜ Ready (now src) (now toks) (now tree) s 1 ⌝ }
+    ensures { λ r. ⌜ Parts (now (src .entry)) (now (toks .entry)) left linesOn [] a-list s (now (tree .entry)) r (now (tree .exit)) ⌝ }
+{
+    let at = s.at;
+    if stmt_leaves::begins_line(leaves::symbol_at(src, toks, at)) {
+        let head = rule_line(src, toks, tree, left, s);
+        match head {
+            Parsed::Node(n, after) => {
+                let k = after.nodes - 1;
+                let from = after.at;
+                let line = stmt_leaves::skip_newlines(src, toks, from);
+                let on = State {
+                    at: line,
+                    nodes: after.nodes,
+                    opened: after.opened,
+                    used: after.used,
+                };
+                more(src, toks, tree, left, n, NodeNumber(k), on)
+            }
+            Parsed::Refused(code, after) => Parsed::Refused(code, after),
+        }
+    } else {
+        Parsed::Refused(14, s)
+    }
+}
+
+// The Lines after the first: `first` is the first node of all, `newest` the last so far.
+fn more(
+    src: &[u8],
+    toks: &[u32],
+    tree: &mut [u32],
+    left: u32,
+    first: NodeNumber,
+    newest: NodeNumber,
+    s: State,
+) -> Parsed
+    requires { ⌜ Ready (now src) (now toks) (now tree) s 1 ⌝ }
+    requires { ⌜ newest .0 < s .nodes ⌝ }
+    ensures { λ r. ⌜ Parts (now (src .entry)) (now (toks .entry)) left linesRest (growing (first .0) (newest .0) ∷ []) a-list s (now (tree .entry)) r (now (tree .exit)) ⌝ }
+{
+    let mut last = newest;
+    let mut st = s;
+    loop {
+        let at = st.at;
+        if stmt_leaves::begins_line(leaves::symbol_at(src, toks, at)) {
+            let next = rule_line(src, toks, tree, left, st);
+            match next {
+                Parsed::Node(n, after) => {
+                    let k = after.nodes - 1;
+                    let from = after.at;
+                    let line = stmt_leaves::skip_newlines(src, toks, from);
+                    let on = State {
+                        at: line,
+                        nodes: after.nodes,
+                        opened: after.opened,
+                        used: after.used,
+                    };
+                    leaves::link(tree, last, n, on);
+                    last = NodeNumber(k);
+                    st = on;
+                }
+                Parsed::Refused(code, after) => return Parsed::Refused(code, after),
+            }
+        } else {
+            return Parsed::Node(first, st);
+        }
+    }
+}
+
+// The Dedent behind a list.
+fn dedent(src: &[u8], toks: &[u32], first: NodeNumber, s: State) -> Parsed
+    requires { ⌜ Tokens (now src) (now toks) ⌝ }
+    requires { ⌜ (s .at .0 ≤ eofAt (now toks)) × (s .used ≡ textBefore (now src) (now toks) (s .at .0)) ⌝ }
+    ensures { λ r. ⌜ ((room : ℕ) (tr : List ℕ) → Parts (now (src .entry)) (now (toks .entry)) room (tk Dedent) (list (first .0) ∷ []) a-list s tr r tr) ⌝ }
+{
+    let at = s.at;
+    if leaves::is_symbol(leaves::symbol_at(src, toks, at), token::DEDENT) {
+        let t = at.0 + 1;
+        let on = State {
+            at: TokenNumber(t),
+            nodes: s.nodes,
+            opened: s.opened,
+            used: s.used,
+        };
+        Parsed::Node(first, on)
+    } else {
+        Parsed::Refused(14, s)
+    }
+}
+
+// Class, opened at its keyword: name, colon, one or more Newlines, Indent, one or more Methods with no Newline between, Dedent.
+fn rule_class(src: &[u8], toks: &[u32], tree: &mut [u32], left: u32, s: State) -> Parsed
+    requires { ⌜ Ready (now src) (now toks) (now tree) s 9 ⌝ }
+    requires { ⌜ Begun (now src) (now toks) s Class ⌝ }
+    ensures { λ r. ⌜ Rules (now (src .entry)) (now (toks .entry)) left Class a-node s (now (tree .entry)) r (now (tree .exit)) ⌝ }
+    ensures { λ r. ⌜ Newest r ⌝ }
+{
+    let keyword = s.at;
+    let opened = s.opened + 1;
+    let t = keyword.0 + 1;
+    let name = TokenNumber(t);
+    if leaves::is_name(leaves::symbol_at(src, toks, name)) {
+        let u = t + 1;
+        let on = State {
+            at: TokenNumber(u),
+            nodes: s.nodes,
+            opened: opened,
+            used: s.used,
+        };
+        suite(src, toks, tree, left, keyword, name, on)
+    } else {
+        let up = State {
+            at: name,
+            nodes: s.nodes,
+            opened: opened,
+            used: s.used,
+        };
+        Parsed::Refused(14, up)
+    }
+}
+
+// After a Class's name: colon, one or more Newlines.
+fn suite(
+    src: &[u8],
+    toks: &[u32],
+    tree: &mut [u32],
+    left: u32,
+    keyword: TokenNumber,
+    name: TokenNumber,
+    s: State,
+) -> Parsed
+    requires { ⌜ Ready (now src) (now toks) (now tree) s 1 ⌝ }
+    requires { ⌜ (keyword .0 < s .at .0) × (name .0 < s .at .0) ⌝ }
+    ensures { λ r. ⌜ Parts (now (src .entry)) (now (toks .entry)) left classOn (token (name .0) ∷ token (keyword .0) ∷ []) a-node s (now (tree .entry)) r (now (tree .exit)) ⌝ }
+    ensures { λ r. ⌜ Newest r ⌝ }
+{
+    let at = s.at;
+    if leaves::is_symbol(leaves::symbol_at(src, toks, at), token::COLON) {
+        let t = at.0 + 1;
+        let next = TokenNumber(t);
+        if leaves::is_symbol(leaves::symbol_at(src, toks, next), token::NEWLINE) {
+            let u = t + 1;
+            let line = stmt_leaves::skip_newlines(src, toks, TokenNumber(u));
+            let below = State {
+                at: line,
+                nodes: s.nodes,
+                opened: s.opened,
+                used: s.used,
+            };
+            methods(src, toks, tree, left, keyword, name, below)
+        } else {
+            let on = State {
+                at: next,
+                nodes: s.nodes,
+                opened: s.opened,
+                used: s.used,
+            };
+            Parsed::Refused(14, on)
+        }
+    } else {
+        Parsed::Refused(14, s)
+    }
+}
+
+// Indent, one or more Methods, Dedent.
+fn methods(
+    src: &[u8],
+    toks: &[u32],
+    tree: &mut [u32],
+    left: u32,
+    keyword: TokenNumber,
+    name: TokenNumber,
+    s: State,
+) -> Parsed
+    requires { ⌜ Ready (now src) (now toks) (now tree) s 1 ⌝ }
+    requires { ⌜ (keyword .0 < s .at .0) × (name .0 < s .at .0) ⌝ }
+    ensures { λ r. ⌜ Parts (now (src .entry)) (now (toks .entry)) left methodsOn (token (name .0) ∷ token (keyword .0) ∷ []) a-node s (now (tree .entry)) r (now (tree .exit)) ⌝ }
+    ensures { λ r. ⌜ Newest r ⌝ }
+{
+    let at = s.at;
+    if leaves::is_symbol(leaves::symbol_at(src, toks, at), token::INDENT) {
+        let t = at.0 + 1;
+        let on = State {
+            at: TokenNumber(t),
+            nodes: s.nodes,
+            opened: s.opened,
+            used: s.used,
+        };
+        let one = method(src, toks, tree, left, on);
+        match one {
+            Parsed::Node(n, after) => others(src, toks, tree, left, keyword, name, n, after),
+            Parsed::Refused(code, after) => Parsed::Refused(code, after),
+        }
+    } else {
+        Parsed::Refused(14, s)
+    }
+}
+
+// The Methods after the first, and the Dedent.
+fn others(
+    src: &[u8],
+    toks: &[u32],
+    tree: &mut [u32],
+    left: u32,
+    keyword: TokenNumber,
+    name: TokenNumber,
+    first: NodeNumber,
+    s: State,
+) -> Parsed
+    requires { ⌜ Ready (now src) (now toks) (now tree) s 1 ⌝ }
+    requires { ⌜ (keyword .0 < s .at .0) × (name .0 < s .at .0) × (first .0 < s .nodes) ⌝ }
+    ensures { λ r. ⌜ Parts (now (src .entry)) (now (toks .entry)) left methodsRest (growing (first .0) (first .0) ∷ token (name .0) ∷ token (keyword .0) ∷ []) a-node s (now (tree .entry)) r (now (tree .exit)) ⌝ }
+    ensures { λ r. ⌜ Newest r ⌝ }
+{
+    let mut last = first;
+    let mut st = s;
+    loop {
+        let at = st.at;
+        if leaves::is_symbol(leaves::symbol_at(src, toks, at), token::DEF) {
+            let next = method(src, toks, tree, left, st);
+            match next {
+                Parsed::Node(n, after) => {
+                    leaves::link(tree, last, n, after);
+                    last = n;
+                    st = after;
+                }
+                Parsed::Refused(code, after) => return Parsed::Refused(code, after),
+            }
+        } else {
+            return class_end(src, toks, tree, keyword, name, first, st);
+        }
+    }
+}
+
+// The Dedent of a Class with the Methods from `first` on.
+fn class_end(
+    src: &[u8],
+    toks: &[u32],
+    tree: &mut [u32],
+    keyword: TokenNumber,
+    name: TokenNumber,
+    first: NodeNumber,
+    s: State,
+) -> Parsed
+    requires { ⌜ Ready (now src) (now toks) (now tree) s 1 ⌝ }
+    requires { ⌜ (keyword .0 < s .at .0) × (name .0 < s .at .0) ⌝ }
+    ensures { λ r. ⌜ ((room : ℕ) → Parts (now (src .entry)) (now (toks .entry)) room classEnd (list (first .0) ∷ token (name .0) ∷ token (keyword .0) ∷ []) a-node s (now (tree .entry)) r (now (tree .exit))) ⌝ }
+    ensures { λ r. ⌜ Newest r ⌝ }
+{
+    let shut = dedent(src, toks, first, s);
+    match shut {
+        Parsed::Node(n, after) => {
+            let made = stmt_leaves::put_class(toks, tree, keyword, name, n, after);
+            let m = made.0;
+            let done = made.1;
+            Parsed::Node(m, done)
+        }
+        Parsed::Refused(code, after) => Parsed::Refused(code, after),
+    }
+}
+
+// A Method.
+fn method(src: &[u8], toks: &[u32], tree: &mut [u32], left: u32, s: State) -> Parsed
+    requires { ⌜ Ready (now src) (now toks) (now tree) s 1 ⌝ }
+    ensures { λ r. ⌜ Parts (now (src .entry)) (now (toks .entry)) left (rules.definition kind.Method) [] a-node s (now (tree .entry)) r (now (tree .exit)) ⌝ }
+{
+    let at = s.at;
+    if leaves::is_symbol(leaves::symbol_at(src, toks, at), token::DEF) {
+        let t = at.0 + 1;
+        let on = State {
+            at: TokenNumber(t),
+            nodes: s.nodes,
+            opened: s.opened,
+            used: s.used,
+        };
+        named(src, toks, tree, left, ast::METHOD, at, on)
+    } else {
+        Parsed::Refused(14, s)
+    }
+}
+
+// A Def or Method after its keyword: name, parenthesis, names.
+fn named(
+    src: &[u8],
+    toks: &[u32],
+    tree: &mut [u32],
+    left: u32,
+    kind: u32,
+    keyword: TokenNumber,
+    s: State,
+) -> Parsed
+    requires { ⌜ Ready (now src) (now toks) (now tree) s 1 ⌝ }
+    requires { ⌜ keyword .0 < s .at .0 ⌝ }
+    ensures { λ r. ⌜ Parts (now (src .entry)) (now (toks .entry)) left (namedOn kind) (token (keyword .0) ∷ []) a-node s (now (tree .entry)) r (now (tree .exit)) ⌝ }
+    ensures { λ r. ⌜ Newest r ⌝ }
+{
+    let name = s.at;
+    if leaves::is_name(leaves::symbol_at(src, toks, name)) {
+        let t = name.0 + 1;
+        let next = TokenNumber(t);
+        let on = State {
+            at: next,
+            nodes: s.nodes,
+            opened: s.opened,
+            used: s.used,
+        };
+        if leaves::is_symbol(leaves::symbol_at(src, toks, next), token::LPAREN) {
+            let u = t + 1;
+            let within = State {
+                at: TokenNumber(u),
+                nodes: s.nodes,
+                opened: s.opened,
+                used: s.used,
+            };
+            given(src, toks, tree, left, kind, keyword, name, within)
+        } else {
+            Parsed::Refused(14, on)
+        }
+    } else {
+        Parsed::Refused(14, s)
+    }
+}
+
+// After the opening parenthesis: names, closing parenthesis, Block.
+fn given(
+    src: &[u8],
+    toks: &[u32],
+    tree: &mut [u32],
+    left: u32,
+    kind: u32,
+    keyword: TokenNumber,
+    name: TokenNumber,
+    s: State,
+) -> Parsed
+    requires { ⌜ Ready (now src) (now toks) (now tree) s 1 ⌝ }
+    requires { ⌜ (keyword .0 < s .at .0) × (name .0 < s .at .0) ⌝ }
+    ensures { λ r. ⌜ Parts (now (src .entry)) (now (toks .entry)) left (givenOn kind) (token (name .0) ∷ token (keyword .0) ∷ []) a-node s (now (tree .entry)) r (now (tree .exit)) ⌝ }
+    ensures { λ r. ⌜ Newest r ⌝ }
+{
+    let heads = expr::names(src, toks, tree, s);
+    let names = heads.0;
+    let after = heads.1;
+    let at = after.at;
+    if leaves::is_symbol(leaves::symbol_at(src, toks, at), token::RPAREN) {
+        let t = at.0 + 1;
+        let on = State {
+            at: TokenNumber(t),
+            nodes: after.nodes,
+            opened: after.opened,
+            used: after.used,
+        };
+        let body = block(src, toks, tree, left, on);
+        match body {
+            Parsed::Node(n, done) => {
+                let made = stmt_leaves::put_def(toks, tree, kind, keyword, name, names, n, done);
+                let m = made.0;
+                let end = made.1;
+                Parsed::Node(m, end)
+            }
+            Parsed::Refused(code, done) => Parsed::Refused(code, done),
+        }
+    } else {
+        Parsed::Refused(14, after)
+    }
+}
+
+// While after its keyword: E, Block.
+fn again(
+    src: &[u8],
+    toks: &[u32],
+    tree: &mut [u32],
+    left: u32,
+    keyword: TokenNumber,
+    s: State,
+) -> Parsed
+    requires { ⌜ Ready (now src) (now toks) (now tree) s 1 ⌝ }
+    requires { ⌜ keyword .0 < s .at .0 ⌝ }
+    ensures { λ r. ⌜ Parts (now (src .entry)) (now (toks .entry)) left whileOn (token (keyword .0) ∷ []) a-node s (now (tree .entry)) r (now (tree .exit)) ⌝ }
+    ensures { λ r. ⌜ Newest r ⌝ }
+{
+    let test = expr::enter(src, toks, tree, left, s);
+    match test {
+        Parsed::Node(c, after) => {
+            let body = block(src, toks, tree, left, after);
+            match body {
+                Parsed::Node(n, done) => {
+                    let made = stmt_leaves::put_while(toks, tree, keyword, c, n, done);
+                    let m = made.0;
+                    let end = made.1;
+                    Parsed::Node(m, end)
+                }
+                Parsed::Refused(code, done) => Parsed::Refused(code, done),
+            }
+        }
+        Parsed::Refused(code, after) => Parsed::Refused(code, after),
+    }
+}
+
+// For after its keyword: name, `in`.
+fn each(
+    src: &[u8],
+    toks: &[u32],
+    tree: &mut [u32],
+    left: u32,
+    keyword: TokenNumber,
+    s: State,
+) -> Parsed
+    requires { ⌜ Ready (now src) (now toks) (now tree) s 1 ⌝ }
+    requires { ⌜ keyword .0 < s .at .0 ⌝ }
+    ensures { λ r. ⌜ Parts (now (src .entry)) (now (toks .entry)) left forOn (token (keyword .0) ∷ []) a-node s (now (tree .entry)) r (now (tree .exit)) ⌝ }
+    ensures { λ r. ⌜ Newest r ⌝ }
+{
+    let name = s.at;
+    if leaves::is_name(leaves::symbol_at(src, toks, name)) {
+        let t = name.0 + 1;
+        let next = TokenNumber(t);
+        let on = State {
+            at: next,
+            nodes: s.nodes,
+            opened: s.opened,
+            used: s.used,
+        };
+        if leaves::is_symbol(leaves::symbol_at(src, toks, next), token::IN) {
+            let u = t + 1;
+            let within = State {
+                at: TokenNumber(u),
+                nodes: s.nodes,
+                opened: s.opened,
+                used: s.used,
+            };
+            range(src, toks, tree, left, keyword, name, within)
+        } else {
+            Parsed::Refused(14, on)
+        }
+    } else {
+        Parsed::Refused(14, s)
+    }
+}
+
+// For after `in`: E, Block.
+fn range(
+    src: &[u8],
+    toks: &[u32],
+    tree: &mut [u32],
+    left: u32,
+    keyword: TokenNumber,
+    name: TokenNumber,
+    s: State,
+) -> Parsed
+    requires { ⌜ Ready (now src) (now toks) (now tree) s 1 ⌝ }
+    requires { ⌜ (keyword .0 < s .at .0) × (name .0 < s .at .0) ⌝ }
+    ensures { λ r. ⌜ Parts (now (src .entry)) (now (toks .entry)) left rangeOn (token (name .0) ∷ token (keyword .0) ∷ []) a-node s (now (tree .entry)) r (now (tree .exit)) ⌝ }
+    ensures { λ r. ⌜ Newest r ⌝ }
+{
+    let over = expr::enter(src, toks, tree, left, s);
+    match over {
+        Parsed::Node(c, after) => {
+            let body = block(src, toks, tree, left, after);
+            match body {
+                Parsed::Node(n, done) => {
+                    let made = stmt_leaves::put_for(toks, tree, keyword, name, c, n, done);
+                    let m = made.0;
+                    let end = made.1;
+                    Parsed::Node(m, end)
+                }
+                Parsed::Refused(code, done) => Parsed::Refused(code, done),
+            }
+        }
+        Parsed::Refused(code, after) => Parsed::Refused(code, after),
+    }
+}
+
+// If after its keyword: E, Block, and what may follow at once.
+fn cond(
+    src: &[u8],
+    toks: &[u32],
+    tree: &mut [u32],
+    left: u32,
+    keyword: TokenNumber,
+    s: State,
+) -> Parsed
+    requires { ⌜ Ready (now src) (now toks) (now tree) s 1 ⌝ }
+    requires { ⌜ keyword .0 < s .at .0 ⌝ }
+    ensures { λ r. ⌜ Parts (now (src .entry)) (now (toks .entry)) left ifOn (token (keyword .0) ∷ []) a-node s (now (tree .entry)) r (now (tree .exit)) ⌝ }
+    ensures { λ r. ⌜ Newest r ⌝ }
+{
+    let test = expr::enter(src, toks, tree, left, s);
+    match test {
+        Parsed::Node(c, after) => {
+            let body = block(src, toks, tree, left, after);
+            match body {
+                Parsed::Node(n, done) => branch(src, toks, tree, left, keyword, c, n, done),
+                Parsed::Refused(code, done) => Parsed::Refused(code, done),
+            }
+        }
+        Parsed::Refused(code, after) => Parsed::Refused(code, after),
+    }
+}
+
+// After the first Block of an If: its Elifs and its Else.
+fn branch(
+    src: &[u8],
+    toks: &[u32],
+    tree: &mut [u32],
+    left: u32,
+    keyword: TokenNumber,
+    test: NodeNumber,
+    then: NodeNumber,
+    s: State,
+) -> Parsed
+    requires { ⌜ Ready (now src) (now toks) (now tree) s 1 ⌝ }
+    requires { ⌜ (keyword .0 < s .at .0) × (s .nodes + 1 ≤ 2 * s .at .0) ⌝ }
+    ensures { λ r. ⌜ Parts (now (src .entry)) (now (toks .entry)) left branches (list (then .0) ∷ node (test .0) ∷ token (keyword .0) ∷ []) a-node s (now (tree .entry)) r (now (tree .exit)) ⌝ }
+    ensures { λ r. ⌜ Newest r ⌝ }
+{
+    let rest = elifs(src, toks, tree, left, s);
+    match rest {
+        Parsed::Node(e, after) => {
+            let last = other(src, toks, tree, left, after);
+            match last {
+                Parsed::Node(o, done) => {
+                    let made = stmt_leaves::put_if(toks, tree, keyword, test, then, e, o, done);
+                    let m = made.0;
+                    let end = made.1;
+                    Parsed::Node(m, end)
+                }
+                Parsed::Refused(code, done) => Parsed::Refused(code, done),
+            }
+        }
+        Parsed::Refused(code, after) => Parsed::Refused(code, after),
+    }
+}
+
+// Elifs, or none.
+fn elifs(src: &[u8], toks: &[u32], tree: &mut [u32], left: u32, s: State) -> Parsed
+    requires { ⌜ Ready (now src) (now toks) (now tree) s 1 ⌝ }
+    ensures { λ r. ⌜ Parts (now (src .entry)) (now (toks .entry)) left elifsOn [] a-list s (now (tree .entry)) r (now (tree .exit)) ⌝ }
+{
+    let at = s.at;
+    if leaves::is_symbol(leaves::symbol_at(src, toks, at), token::ELIF) {
+        let one = elif(src, toks, tree, left, s);
+        match one {
+            Parsed::Node(n, after) => further(src, toks, tree, left, n, after),
+            Parsed::Refused(code, after) => Parsed::Refused(code, after),
+        }
+    } else {
+        Parsed::Node(NodeNumber(ast::NONE_NODE), s)
+    }
+}
+
+// The Elifs after the first.
+fn further(
+    src: &[u8],
+    toks: &[u32],
+    tree: &mut [u32],
+    left: u32,
+    first: NodeNumber,
+    s: State,
+) -> Parsed
+    requires { ⌜ Ready (now src) (now toks) (now tree) s 1 ⌝ }
+    requires { ⌜ first .0 < s .nodes ⌝ }
+    ensures { λ r. ⌜ Parts (now (src .entry)) (now (toks .entry)) left elifsRest (growing (first .0) (first .0) ∷ []) a-list s (now (tree .entry)) r (now (tree .exit)) ⌝ }
+{
+    let mut last = first;
+    let mut st = s;
+    loop {
+        let at = st.at;
+        if leaves::is_symbol(leaves::symbol_at(src, toks, at), token::ELIF) {
+            let next = elif(src, toks, tree, left, st);
+            match next {
+                Parsed::Node(n, after) => {
+                    leaves::link(tree, last, n, after);
+                    last = n;
+                    st = after;
+                }
+                Parsed::Refused(code, after) => return Parsed::Refused(code, after),
+            }
+        } else {
+            return Parsed::Node(first, st);
+        }
+    }
+}
+
+// An Elif, at its keyword: E, Block.
+fn elif(src: &[u8], toks: &[u32], tree: &mut [u32], left: u32, s: State) -> Parsed
+    requires { ⌜ Ready (now src) (now toks) (now tree) s 1 ⌝ }
+    requires { ⌜ mem (symbolAt (now src) (now toks) (s .at .0)) (Elif ∷ []) ≡ true ⌝ }
+    ensures { λ r. ⌜ Parts (now (src .entry)) (now (toks .entry)) left elifOn [] a-node s (now (tree .entry)) r (now (tree .exit)) ⌝ }
+{
+    let keyword = s.at;
+    let t = keyword.0 + 1;
+    let on = State {
+        at: TokenNumber(t),
+        nodes: s.nodes,
+        opened: s.opened,
+        used: s.used,
+    };
+    let test = expr::enter(src, toks, tree, left, on);
+    match test {
+        Parsed::Node(c, after) => {
+            let body = block(src, toks, tree, left, after);
+            match body {
+                Parsed::Node(n, done) => {
+                    let made = stmt_leaves::put_elif(toks, tree, keyword, c, n, done);
+                    let m = made.0;
+                    let end = made.1;
+                    Parsed::Node(m, end)
+                }
+                Parsed::Refused(code, done) => Parsed::Refused(code, done),
+            }
+        }
+        Parsed::Refused(code, after) => Parsed::Refused(code, after),
+    }
+}
+
+// An Else as a list of one, or none.
+fn other(src: &[u8], toks: &[u32], tree: &mut [u32], left: u32, s: State) -> Parsed
+    requires { ⌜ Ready (now src) (now toks) (now tree) s 1 ⌝ }
+    ensures { λ r. ⌜ Parts (now (src .entry)) (now (toks .entry)) left elseOn [] a-list s (now (tree .entry)) r (now (tree .exit)) ⌝ }
+{
+    let keyword = s.at;
+    if leaves::is_symbol(leaves::symbol_at(src, toks, keyword), token::ELSE) {
+        let t = keyword.0 + 1;
+        let on = State {
+            at: TokenNumber(t),
+            nodes: s.nodes,
+            opened: s.opened,
+            used: s.used,
+        };
+        let body = block(src, toks, tree, left, on);
+        match body {
+            Parsed::Node(n, done) => {
+                let made = stmt_leaves::put_else(toks, tree, keyword, n, done);
+                let m = made.0;
+                let end = made.1;
+                Parsed::Node(m, end)
+            }
+            Parsed::Refused(code, done) => Parsed::Refused(code, done),
+        }
+    } else {
+        Parsed::Node(NodeNumber(ast::NONE_NODE), s)
+    }
+}
