@@ -2,11 +2,18 @@
 ghost use mathlib.Core.List.{List, [], _∷_};
 ghost use Prim.Native.Nat.{ℕ, _+_, _-_, _*_, _^_, _≤_, _<_};
 ghost use lib.ListN.{length};
+ghost use Rattle.ast.specs.Node.{made};
 ghost use Rattle.pyhyeon.specs.Machine.{token, node, list};
 ghost use Rattle.pyhyeon.specs.Action.{branch, elif, else, while, for, define, class, program};
 ghost use Rattle.leaves.specs.Contract.{Spot, Writes};
+ghost use Rattle.leaves.specs.Put.{Put};
+ghost use Rattle.leaves.specs.Tokens.{startAt, endAt};
 use leaves::Added;
 use leaves::State;
+use leaves::add;
+use leaves::end_at;
+use leaves::put_opened;
+use leaves::start_at;
 use token::NodeNumber;
 use token::Place;
 use token::TokenNumber;
@@ -26,7 +33,7 @@ pub fn put_if(
     requires { ⌜ keyword .0 < s .at .0 ⌝ }
     ensures { λ r. ⌜ ((src : List ℕ) → Writes src (now (toks .entry)) branch (list (otherwise .0) ∷ list (elifs .0) ∷ list (then .0) ∷ node (condition .0) ∷ token (keyword .0) ∷ []) s (now (tree .entry)) r (now (tree .exit))) ⌝ }
 {
-    leaves::put_opened(
+    put_opened(
         toks,
         tree,
         ast::IF,
@@ -52,7 +59,7 @@ pub fn put_elif(
     requires { ⌜ keyword .0 < s .at .0 ⌝ }
     ensures { λ r. ⌜ ((src : List ℕ) → Writes src (now (toks .entry)) elif (list (body .0) ∷ node (condition .0) ∷ token (keyword .0) ∷ []) s (now (tree .entry)) r (now (tree .exit))) ⌝ }
 {
-    leaves::put_opened(toks, tree, ast::ELIF, keyword, condition.0, body.0, 0, 0, s)
+    put_opened(toks, tree, ast::ELIF, keyword, condition.0, body.0, 0, 0, s)
 }
 
 // An Else.
@@ -67,7 +74,7 @@ pub fn put_else(
     requires { ⌜ keyword .0 < s .at .0 ⌝ }
     ensures { λ r. ⌜ ((src : List ℕ) → Writes src (now (toks .entry)) else (list (body .0) ∷ token (keyword .0) ∷ []) s (now (tree .entry)) r (now (tree .exit))) ⌝ }
 {
-    leaves::put_opened(toks, tree, ast::ELSE, keyword, body.0, 0, 0, 0, s)
+    put_opened(toks, tree, ast::ELSE, keyword, body.0, 0, 0, 0, s)
 }
 
 // A While.
@@ -83,7 +90,7 @@ pub fn put_while(
     requires { ⌜ keyword .0 < s .at .0 ⌝ }
     ensures { λ r. ⌜ ((src : List ℕ) → Writes src (now (toks .entry)) while (list (body .0) ∷ node (condition .0) ∷ token (keyword .0) ∷ []) s (now (tree .entry)) r (now (tree .exit))) ⌝ }
 {
-    leaves::put_opened(
+    put_opened(
         toks,
         tree,
         ast::WHILE,
@@ -94,6 +101,26 @@ pub fn put_while(
         0,
         s,
     )
+}
+
+// A node from its keyword on, whose first fields are a name: "Names are start and end in the source" (01, Tree).
+fn put_called(
+    toks: &[u32],
+    tree: &mut [u32],
+    kind: u32,
+    keyword: TokenNumber,
+    name: TokenNumber,
+    r: u32,
+    f: u32,
+    s: State,
+) -> Added
+    requires { ⌜ Spot (now toks) (now tree) s ⌝ }
+    requires { ⌜ (keyword .0 < s .at .0) × (name .0 < s .at .0) ⌝ }
+    ensures { λ a. ⌜ Put s (now (tree .entry)) (made kind (startAt (now (toks .entry)) (keyword .0)) (endAt (now (toks .entry)) (s .at .0 - 1)) (startAt (now (toks .entry)) (name .0)) (endAt (now (toks .entry)) (name .0)) r f) a (now (tree .exit)) ⌝ }
+{
+    let from = start_at(toks, name);
+    let to = end_at(toks, name);
+    put_opened(toks, tree, kind, keyword, from.0, to.0, r, f, s)
 }
 
 // A For, with the token of its name.
@@ -110,19 +137,7 @@ pub fn put_for(
     requires { ⌜ (keyword .0 < s .at .0) × (name .0 < s .at .0) ⌝ }
     ensures { λ r. ⌜ ((src : List ℕ) → Writes src (now (toks .entry)) for (list (body .0) ∷ node (iterable .0) ∷ token (name .0) ∷ token (keyword .0) ∷ []) s (now (tree .entry)) r (now (tree .exit))) ⌝ }
 {
-    let from = leaves::start_at(toks, name);
-    let to = leaves::end_at(toks, name);
-    leaves::put_opened(
-        toks,
-        tree,
-        ast::FOR,
-        keyword,
-        from.0,
-        to.0,
-        iterable.0,
-        body.0,
-        s,
-    )
+    put_called(toks, tree, ast::FOR, keyword, name, iterable.0, body.0, s)
 }
 
 // A Def or Method, with the token of its name and the list of its names.
@@ -140,9 +155,7 @@ pub fn put_def(
     requires { ⌜ (keyword .0 < s .at .0) × (name .0 < s .at .0) ⌝ }
     ensures { λ r. ⌜ ((src : List ℕ) → Writes src (now (toks .entry)) (define kind) (list (body .0) ∷ list (names .0) ∷ token (name .0) ∷ token (keyword .0) ∷ []) s (now (tree .entry)) r (now (tree .exit))) ⌝ }
 {
-    let from = leaves::start_at(toks, name);
-    let to = leaves::end_at(toks, name);
-    leaves::put_opened(toks, tree, kind, keyword, from.0, to.0, names.0, body.0, s)
+    put_called(toks, tree, kind, keyword, name, names.0, body.0, s)
 }
 
 // A Class, with the token of its name.
@@ -158,19 +171,7 @@ pub fn put_class(
     requires { ⌜ (keyword .0 < s .at .0) × (name .0 < s .at .0) ⌝ }
     ensures { λ r. ⌜ ((src : List ℕ) → Writes src (now (toks .entry)) class (list (methods .0) ∷ token (name .0) ∷ token (keyword .0) ∷ []) s (now (tree .entry)) r (now (tree .exit))) ⌝ }
 {
-    let from = leaves::start_at(toks, name);
-    let to = leaves::end_at(toks, name);
-    leaves::put_opened(
-        toks,
-        tree,
-        ast::CLASS,
-        keyword,
-        from.0,
-        to.0,
-        methods.0,
-        0,
-        s,
-    )
+    put_called(toks, tree, ast::CLASS, keyword, name, methods.0, 0, s)
 }
 
 // The Program of all lines, from the source's start to its end. No token needs to have been taken.
@@ -192,5 +193,5 @@ pub fn put_program(src: &[u8], tree: &mut [u32], lines: NodeNumber, s: State) ->
         0,
         0,
     );
-    leaves::add(s)
+    add(s)
 }

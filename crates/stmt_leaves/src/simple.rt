@@ -6,6 +6,9 @@ ghost use Rattle.pyhyeon.specs.Action.{alone, expr, assign, return};
 ghost use Rattle.leaves.specs.Contract.{Spot, Writes};
 use leaves::Added;
 use leaves::State;
+use leaves::end_at;
+use leaves::put_begun;
+use leaves::put_opened;
 use token::NodeNumber;
 use token::TokenNumber;
 
@@ -15,7 +18,7 @@ pub fn put_alone(toks: &[u32], tree: &mut [u32], kind: u32, s: State) -> Added
     ensures { λ r. ⌜ ((src : List ℕ) → Writes src (now (toks .entry)) (alone kind) [] s (now (tree .entry)) r (now (tree .exit))) ⌝ }
 {
     let t = s.at.0 - 1;
-    leaves::put_opened(toks, tree, kind, TokenNumber(t), 0, 0, 0, 0, s)
+    put_opened(toks, tree, kind, TokenNumber(t), 0, 0, 0, 0, s)
 }
 
 // The Expr of a node.
@@ -24,7 +27,7 @@ pub fn put_expr(toks: &[u32], tree: &mut [u32], n: NodeNumber, s: State) -> Adde
     requires { ⌜ n .0 < s .nodes ⌝ }
     ensures { λ r. ⌜ ((src : List ℕ) → Writes src (now (toks .entry)) expr (node (n .0) ∷ []) s (now (tree .entry)) r (now (tree .exit))) ⌝ }
 {
-    leaves::put_begun(toks, tree, ast::EXPR, n, n.0, 0, 0, s)
+    put_begun(toks, tree, ast::EXPR, n, n.0, 0, 0, s)
 }
 
 // The Return of a node.
@@ -39,10 +42,10 @@ pub fn put_return(
     requires { ⌜ keyword .0 < s .at .0 ⌝ }
     ensures { λ r. ⌜ ((src : List ℕ) → Writes src (now (toks .entry)) return (node (n .0) ∷ token (keyword .0) ∷ []) s (now (tree .entry)) r (now (tree .exit))) ⌝ }
 {
-    leaves::put_opened(toks, tree, ast::RETURN, keyword, n.0, 0, 0, 0, s)
+    put_opened(toks, tree, ast::RETURN, keyword, n.0, 0, 0, 0, s)
 }
 
-// The Assign of a value to a target: "An Assign target takes the statement's span" (01, Tree).
+// The Assign of a value to a target: "An Assign target takes the statement's span" (01, Grammar).
 pub fn put_assign(
     toks: &[u32],
     tree: &mut [u32],
@@ -56,7 +59,7 @@ pub fn put_assign(
 {
     let t = s.at.0 - 1;
     let from = ast::start_of(tree, target);
-    let to = leaves::end_at(toks, TokenNumber(t));
+    let to = end_at(toks, TokenNumber(t));
     ast::set_span(tree, target, from, to);
-    leaves::put_begun(toks, tree, ast::ASSIGN, target, target.0, value.0, 0, s)
+    put_begun(toks, tree, ast::ASSIGN, target, target.0, value.0, 0, s)
 }
