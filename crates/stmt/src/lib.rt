@@ -21,11 +21,11 @@ ghost use Rattle.leaves.specs.Tokens.{eofAt, textBefore, symbolAt, Tokens};
 ghost use Rattle.leaves.specs.Contract.{a-node, a-list, a-growing, Rules, Parts, Ready, Begun};
 ghost use Rattle.simple.specs.Parts.{Newest};
 ghost use Rattle.stmt.specs.Parts.{linesRest, inner, indentedOn, classOn, methodsOn, methodsRest, classEnd, namedOn, givenOn, elifsOn, elifsRest, elseOn, branches, ifOn, elifOn, whileOn, rangeOn, forOn};
-mod program;
+mod whole;
 
 use leaves::Parsed;
 use leaves::State;
-pub use program::program;
+pub use whole::program;
 use token::NodeNumber;
 use token::TokenNumber;
 

@@ -1,0 +1,55 @@
+-- `stmt::indented`, a member of the cycle.
+-- Assumes nothing.
+use borrow.Author.Needs.{needs}
+use native.Mathlib.Omega.{arith}
+use Prim.Native.Nat.{ℕ}
+use Rattle.stmt.proofs.+again+block+branch+cond+each+elif+elifs+further+given+indented+inside+lines+method+methods+more+named+other+others+range+rule_block+rule_class+rule_line+suite.Lts-indented as lts
+use Rattle.stmt.proofs.indented.Reads as reads
+use Rattle.leaves.proofs.symbol_at.Reads as symbol-at-reads
+use Rattle.leaves.proofs.is_symbol.Reads as is-symbol-reads
+use Rattle.stmt.proofs.inside.Reads as inside
+use Rattle.stmt.proofs.dedent.Reads as dedent-reads
+use Rattle.stmt.proofs.+again+block+branch+cond+each+elif+elifs+further+given+indented+inside+lines+method+methods+more+named+other+others+range+rule_block+rule_class+rule_line+suite.Proof.Start.{indented-at, inside-below}
+
+abbrev calls : ℕ → lts.Claims
+calls t = (symbol-at-reads.Asked, symbol-at-reads.Learnt, is-symbol-reads.Asked, is-symbol-reads.Learnt, inside-below t, inside.Post, dedent-reads.Asked, dedent-reads.Learnt)
+
+module _ (t : ℕ) where
+  symbol-at-requires : lts.Need-symbol-at-requires (calls t) (indented-at t) reads.Post
+  symbol-at-requires c κs = ?
+
+  is-symbol-requires : lts.Need-is-symbol-requires (calls t) (indented-at t) reads.Post
+  is-symbol-requires c κs = ?
+
+  add-t : lts.Need-add-t (calls t) (indented-at t) reads.Post
+  add-t c = ?
+
+  inside-requires : lts.Need-inside-requires (calls t) (indented-at t) reads.Post
+  inside-requires c κs = ?
+
+  enum-known-body : lts.Need-enum-known-body (calls t) (indented-at t) reads.Post
+  enum-known-body c = ?
+
+  dedent-requires : lts.Need-dedent-requires (calls t) (indented-at t) reads.Post
+  dedent-requires c κs = ?
+
+  enum-known-body-2 : lts.Need-enum-known-body-2 (calls t) (indented-at t) reads.Post
+  enum-known-body-2 c = ?
+
+  same-length : lts.Need-same-length (calls t) (indented-at t) reads.Post
+  same-length c = ?
+
+  returns : lts.Need-returns (calls t) (indented-at t) reads.Post
+  returns c = ?
+
+  same-length-2 : lts.Need-same-length-2 (calls t) (indented-at t) reads.Post
+  same-length-2 c = ?
+
+  returns-2 : lts.Need-returns-2 (calls t) (indented-at t) reads.Post
+  returns-2 c = ?
+
+  returns-3 : lts.Need-returns-3 (calls t) (indented-at t) reads.Post
+  returns-3 c = ?
+
+  pub meets : {M : Type 1} → lts.Closed (calls t) (indented-at t) reads.Post M
+  meets = lts.spec (calls t) (indented-at t) reads.Post symbol-at-requires is-symbol-requires add-t inside-requires enum-known-body dedent-requires enum-known-body-2 same-length returns same-length-2 returns-2 returns-3
