@@ -1,34 +1,16 @@
 -- What is repeated takes a token, and the parts that functions have for themselves pass the tests of their bounds.
 -- Assumes nothing.
-use mathlib.Core.List.{[], _∷_}
 use lib.Dec.{T}
 use Rattle.grammar.specs.Grammar.{many}
 use Rattle.grammar.specs.Check.{low, takes}
 use Rattle.grammar.specs.Limits.{clean, credit, afford}
-use Rattle.token.specs.Code.{Or, And, Plus, Minus, Star, SlashSlash, Slash, Percent, Eof}
-use Rattle.pyhyeon.specs.Rules.{A, C, P, U, list, more, entry, postfix, parameters, rest}
+use Rattle.pyhyeon.specs.Rules.{list, more, entry, postfix, parameters, rest}
 use Rattle.pyhyeon.specs.Tables.{least, rank, first, primary, pyhyeon}
 use Rattle.pyhyeon.specs.Prices.{writes, needs, gives, prices}
 use Rattle.joint.proofs.Bounds.{Bounded, Modest}
-use Rattle.expr.specs.Parts.{term, further, others, name, valued}
+use Rattle.expr.specs.Parts.{further, others, name, valued}
 use Rattle.grammar.specs.Grammar.{call}
 use Rattle.pyhyeon.specs.Rules.{E}
-
-pub low-o : T (low pyhyeon 100 100 (many (term A (Or ∷ []))))
-unfolding low takes least rank
-low-o = tt
-
-pub low-a : T (low pyhyeon 100 100 (many (term C (And ∷ []))))
-unfolding low takes least rank
-low-a = tt
-
-pub low-s : T (low pyhyeon 100 100 (many (term P (Plus ∷ Minus ∷ []))))
-unfolding low takes least rank
-low-s = tt
-
-pub low-p : T (low pyhyeon 100 100 (many (term U (Star ∷ SlashSlash ∷ Slash ∷ Percent ∷ []))))
-unfolding low takes least rank
-low-p = tt
 
 pub low-further : T (low pyhyeon 100 100 (many further))
 unfolding low takes least rank

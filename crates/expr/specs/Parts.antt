@@ -3,10 +3,19 @@
 use Prim.Native.Nat.{ℕ}
 use mathlib.Core.List.{List, [], _∷_}
 use Rattle.grammar.specs.Grammar.{Part, skip, act, tok, call, _⨾_, _∕_, many, tail}
-use Rattle.token.specs.Code.{Not, Plus, Minus, LBrace, RBrace, RParen, RBracket, Colon, Comma}
+use lib.ListN.{getD}
+use Rattle.token.specs.Code.{Or, And, Star, SlashSlash, Slash, Percent, Not, Plus, Minus, LBrace, RBrace, RParen, RBracket, Colon, Comma}
 use Rattle.ast.specs.Kind as kind
 use Rattle.pyhyeon.specs.Action.{Action, mark, named, signs-more, binary, compare, compare-more, compared, list-one, list-join, list-done, enclose, empty, group, tuple, pair, apply, index, lambda}
+use Rattle.pyhyeon.specs.Rules as rules
 use Rattle.pyhyeon.specs.Rules.{Rule, E, S, tk, names, more, list, parameters, entry, rest, comparisons}
+
+-- the operands and the operators of the four levels that group left, O, A, S and P: the levels 0 to 2, and any other
+abbrev pub operand : ℕ → Rule
+operand level = getD (rules.A ∷ rules.C ∷ rules.P ∷ []) level rules.U
+
+abbrev pub operators : ℕ → List ℕ
+operators level = getD ((Or ∷ []) ∷ (And ∷ []) ∷ (Plus ∷ Minus ∷ []) ∷ []) level (Star ∷ SlashSlash ∷ Slash ∷ Percent ∷ [])
 
 -- an operator and its right operand, of the level r
 abbrev pub term : Rule → List ℕ → Part Action Rule

@@ -10,23 +10,38 @@ ghost use mathlib.Core.List.{[], _∷_};
 ghost use Prim.Native.Nat.{ℕ, _+_, _*_, _-_, _<_};
 ghost use Rattle.grammar.specs.Sets.{mem};
 ghost use Rattle.grammar.specs.Grammar.{call, many, tail, act, _⨾_, _∕_};
-ghost use Rattle.token.specs.Code.{Or, And, Plus, Minus, Star, SlashSlash, Slash, Percent, Comma, Eof, String, Dot, LParen, RParen, LBracket};
+ghost use Rattle.token.specs.Code.{Comma, Eof, String, Dot, LParen, RParen, LBracket};
 ghost use Rattle.pyhyeon.specs.Machine.{token, node, growing, list, chain};
-ghost use Rattle.pyhyeon.specs.Rules.{E, O, C, S, P, U, F, parameters, entry, more, postfix};
+ghost use Rattle.pyhyeon.specs.Rules.{E, O, C, S, P, U, F, entry, more, postfix};
 ghost use Rattle.pyhyeon.specs.Rules as rules;
-ghost use Rattle.pyhyeon.specs.Tables.{primary, pairsOn, setOn, tJoined};
+ghost use Rattle.pyhyeon.specs.Tables.{firstU, primary, pairsOn, setOn};
 ghost use Rattle.pyhyeon.specs.Tables as tables;
 ghost use Rattle.leaves.specs.Tokens.{symbolAt};
 ghost use Rattle.leaves.specs.declared.Parsed.the-variants as parsed;
 ghost use Rattle.leaves.specs.Contract.{a-node, a-list, Rules, Parts, Lists, Ready, Begun};
 ghost use Rattle.ast.specs.Kind as kind;
 ghost use Rattle.pyhyeon.specs.Action.{empty, list-done};
-ghost use Rattle.expr.specs.Parts.{term, chained, compares, others, name, entries, closes, enclosed, lambdaOn, lambdaBody, teeOn, valued, pairsRest, tupleRest, roundOn, callOn, indexOn, tOn};
+ghost use Rattle.expr.specs.Parts.{operand, operators, term, chained, compares, others, entries, closes, enclosed, lambdaOn, lambdaBody, teeOn, valued, pairsRest, tupleRest, roundOn, callOn, indexOn};
+
+mod comma;
+mod parameters;
+
+pub use comma::comma_list;
 use leaves::Added;
 use leaves::Parsed;
 use leaves::State;
+pub use parameters::names;
 use token::NodeNumber;
 use token::TokenNumber;
+
+// The four levels of operators that group left: O, A, S and P.
+const OR: u32 = 0;
+
+const AND: u32 = 1;
+
+const SUM: u32 = 2;
+
+const PRODUCT: u32 = 3;
 
 // E: lambda names : E, or O. Room is asked for before the opening counts.
 pub fn rule_e(src: &[u8], toks: &[u32], tree: &mut [u32], left: u32, s: State) -> Parsed
@@ -147,52 +162,8 @@ fn rule_o(src: &[u8], toks: &[u32], tree: &mut [u32], left: u32, s: State) -> Pa
     };
     let inner = rule_a(src, toks, tree, left, up);
     match inner {
-        Parsed::Node(n, after) => mo(src, toks, tree, left, n, after),
+        Parsed::Node(n, after) => terms(src, toks, tree, left, OR, n, after),
         Parsed::Refused(code, after) => Parsed::Refused(code, after),
-    }
-}
-
-fn mo(
-    src: &[u8],
-    toks: &[u32],
-    tree: &mut [u32],
-    left: u32,
-    first: NodeNumber,
-    s: State,
-) -> Parsed
-    requires { ⌜ Ready (now src) (now toks) (now tree) s 1 ⌝ }
-    requires { ⌜ first .0 < s .nodes ⌝ }
-    ensures { λ r. ⌜ Parts (now (src .entry)) (now (toks .entry)) left (many (term rules.A (Or ∷ []))) (node (first .0) ∷ []) a-node s (now (tree .entry)) r (now (tree .exit)) ⌝ }
-{
-    let mut l = first;
-    let mut st = s;
-    loop {
-        let op = st.at;
-        if leaves::is_symbol(leaves::symbol_at(src, toks, op), token::OR) {
-            let t = op.0 + 1;
-            let next = TokenNumber(t);
-            let on = State {
-                at: next,
-                nodes: st.nodes,
-                opened: st.opened,
-                used: st.used,
-            };
-            if leaves::begins_u(leaves::symbol_at(src, toks, next)) {
-                let right = rule_a(src, toks, tree, left, on);
-                match right {
-                    Parsed::Node(r, after) => {
-                        let made = leaves::put_binary(toks, tree, op, l, r, after);
-                        l = made.0;
-                        st = made.1;
-                    }
-                    Parsed::Refused(code, after) => return Parsed::Refused(code, after),
-                }
-            } else {
-                return Parsed::Refused(14, on);
-            }
-        } else {
-            return Parsed::Node(l, st);
-        }
     }
 }
 
@@ -212,52 +183,8 @@ fn rule_a(src: &[u8], toks: &[u32], tree: &mut [u32], left: u32, s: State) -> Pa
     };
     let inner = rule_c(src, toks, tree, left, up);
     match inner {
-        Parsed::Node(n, after) => ma(src, toks, tree, left, n, after),
+        Parsed::Node(n, after) => terms(src, toks, tree, left, AND, n, after),
         Parsed::Refused(code, after) => Parsed::Refused(code, after),
-    }
-}
-
-fn ma(
-    src: &[u8],
-    toks: &[u32],
-    tree: &mut [u32],
-    left: u32,
-    first: NodeNumber,
-    s: State,
-) -> Parsed
-    requires { ⌜ Ready (now src) (now toks) (now tree) s 1 ⌝ }
-    requires { ⌜ first .0 < s .nodes ⌝ }
-    ensures { λ r. ⌜ Parts (now (src .entry)) (now (toks .entry)) left (many (term C (And ∷ []))) (node (first .0) ∷ []) a-node s (now (tree .entry)) r (now (tree .exit)) ⌝ }
-{
-    let mut l = first;
-    let mut st = s;
-    loop {
-        let op = st.at;
-        if leaves::is_symbol(leaves::symbol_at(src, toks, op), token::AND) {
-            let t = op.0 + 1;
-            let next = TokenNumber(t);
-            let on = State {
-                at: next,
-                nodes: st.nodes,
-                opened: st.opened,
-                used: st.used,
-            };
-            if leaves::begins_u(leaves::symbol_at(src, toks, next)) {
-                let right = rule_c(src, toks, tree, left, on);
-                match right {
-                    Parsed::Node(r, after) => {
-                        let made = leaves::put_binary(toks, tree, op, l, r, after);
-                        l = made.0;
-                        st = made.1;
-                    }
-                    Parsed::Refused(code, after) => return Parsed::Refused(code, after),
-                }
-            } else {
-                return Parsed::Refused(14, on);
-            }
-        } else {
-            return Parsed::Node(l, st);
-        }
     }
 }
 
@@ -394,52 +321,8 @@ fn rule_s(src: &[u8], toks: &[u32], tree: &mut [u32], left: u32, s: State) -> Pa
     };
     let inner = rule_p(src, toks, tree, left, up);
     match inner {
-        Parsed::Node(n, after) => ms(src, toks, tree, left, n, after),
+        Parsed::Node(n, after) => terms(src, toks, tree, left, SUM, n, after),
         Parsed::Refused(code, after) => Parsed::Refused(code, after),
-    }
-}
-
-fn ms(
-    src: &[u8],
-    toks: &[u32],
-    tree: &mut [u32],
-    left: u32,
-    first: NodeNumber,
-    s: State,
-) -> Parsed
-    requires { ⌜ Ready (now src) (now toks) (now tree) s 1 ⌝ }
-    requires { ⌜ first .0 < s .nodes ⌝ }
-    ensures { λ r. ⌜ Parts (now (src .entry)) (now (toks .entry)) left (many (term P (Plus ∷ Minus ∷ []))) (node (first .0) ∷ []) a-node s (now (tree .entry)) r (now (tree .exit)) ⌝ }
-{
-    let mut l = first;
-    let mut st = s;
-    loop {
-        let op = st.at;
-        if leaves::is_add(leaves::symbol_at(src, toks, op)) {
-            let t = op.0 + 1;
-            let next = TokenNumber(t);
-            let on = State {
-                at: next,
-                nodes: st.nodes,
-                opened: st.opened,
-                used: st.used,
-            };
-            if leaves::begins_u(leaves::symbol_at(src, toks, next)) {
-                let right = rule_p(src, toks, tree, left, on);
-                match right {
-                    Parsed::Node(r, after) => {
-                        let made = leaves::put_binary(toks, tree, op, l, r, after);
-                        l = made.0;
-                        st = made.1;
-                    }
-                    Parsed::Refused(code, after) => return Parsed::Refused(code, after),
-                }
-            } else {
-                return Parsed::Refused(14, on);
-            }
-        } else {
-            return Parsed::Node(l, st);
-        }
     }
 }
 
@@ -459,28 +342,30 @@ fn rule_p(src: &[u8], toks: &[u32], tree: &mut [u32], left: u32, s: State) -> Pa
     };
     let inner = rule_u(src, toks, tree, left, up);
     match inner {
-        Parsed::Node(n, after) => mp(src, toks, tree, left, n, after),
+        Parsed::Node(n, after) => terms(src, toks, tree, left, PRODUCT, n, after),
         Parsed::Refused(code, after) => Parsed::Refused(code, after),
     }
 }
 
-fn mp(
+// The operators of a level, each with its right operand, while one stands next. All group left.
+fn terms(
     src: &[u8],
     toks: &[u32],
     tree: &mut [u32],
     left: u32,
+    level: u32,
     first: NodeNumber,
     s: State,
 ) -> Parsed
     requires { ⌜ Ready (now src) (now toks) (now tree) s 1 ⌝ }
     requires { ⌜ first .0 < s .nodes ⌝ }
-    ensures { λ r. ⌜ Parts (now (src .entry)) (now (toks .entry)) left (many (term U (Star ∷ SlashSlash ∷ Slash ∷ Percent ∷ []))) (node (first .0) ∷ []) a-node s (now (tree .entry)) r (now (tree .exit)) ⌝ }
+    ensures { λ r. ⌜ Parts (now (src .entry)) (now (toks .entry)) left (many (term (operand level) (operators level))) (node (first .0) ∷ []) a-node s (now (tree .entry)) r (now (tree .exit)) ⌝ }
 {
     let mut l = first;
     let mut st = s;
     loop {
         let op = st.at;
-        if leaves::is_multiply(leaves::symbol_at(src, toks, op)) {
+        if is_operator(level, leaves::symbol_at(src, toks, op)) {
             let t = op.0 + 1;
             let next = TokenNumber(t);
             let on = State {
@@ -490,7 +375,7 @@ fn mp(
                 used: st.used,
             };
             if leaves::begins_u(leaves::symbol_at(src, toks, next)) {
-                let right = rule_u(src, toks, tree, left, on);
+                let right = below(src, toks, tree, left, level, on);
                 match right {
                     Parsed::Node(r, after) => {
                         let made = leaves::put_binary(toks, tree, op, l, r, after);
@@ -505,6 +390,32 @@ fn mp(
         } else {
             return Parsed::Node(l, st);
         }
+    }
+}
+
+// The right operand of a level.
+fn below(src: &[u8], toks: &[u32], tree: &mut [u32], left: u32, level: u32, s: State) -> Parsed
+    requires { ⌜ Ready (now src) (now toks) (now tree) s 1 ⌝ }
+    requires { ⌜ mem (symbolAt (now src) (now toks) (s .at .0)) firstU ≡ true ⌝ }
+    ensures { λ r. ⌜ Rules (now (src .entry)) (now (toks .entry)) left (operand level) a-node s (now (tree .entry)) r (now (tree .exit)) ⌝ }
+{
+    match level {
+        OR => rule_a(src, toks, tree, left, s),
+        AND => rule_c(src, toks, tree, left, s),
+        SUM => rule_p(src, toks, tree, left, s),
+        _ => rule_u(src, toks, tree, left, s),
+    }
+}
+
+// Whether the symbol is an operator of the level.
+fn is_operator(level: u32, symbol: u32) -> bool
+    ensures { λ r. ⌜ r ≡ mem symbol (operators level) ⌝ }
+{
+    match level {
+        OR => leaves::is_symbol(symbol, token::OR),
+        AND => leaves::is_symbol(symbol, token::AND),
+        SUM => leaves::is_add(symbol),
+        _ => leaves::is_multiply(symbol),
     }
 }
 
@@ -1276,133 +1187,5 @@ fn index(src: &[u8], toks: &[u32], tree: &mut [u32], left: u32, n: NodeNumber, s
             }
         }
         Parsed::Refused(code, after) => Parsed::Refused(code, after),
-    }
-}
-
-// A list of names, which may be empty.
-pub fn names(src: &[u8], toks: &[u32], tree: &mut [u32], s: State) -> Added
-    requires { ⌜ Ready (now src) (now toks) (now tree) s 1 ⌝ }
-    ensures { λ r. ⌜ ((room : ℕ) → Parts (now (src .entry)) (now (toks .entry)) room parameters [] a-list s (now (tree .entry)) (parsed.Node (r .0) (r .1)) (now (tree .exit))) ⌝ }
-{
-    let at = s.at;
-    if leaves::is_name(leaves::symbol_at(src, toks, at)) {
-        let t = at.0 + 1;
-        let on = State {
-            at: TokenNumber(t),
-            nodes: s.nodes,
-            opened: s.opened,
-            used: s.used,
-        };
-        let made = leaves::put_named(toks, tree, ast::NAME, on);
-        let first = made.0;
-        let after = made.1;
-        names_rest(src, toks, tree, first, after)
-    } else {
-        Added(NodeNumber(ast::NONE_NODE), s)
-    }
-}
-
-// The rest of a list of names.
-fn names_rest(src: &[u8], toks: &[u32], tree: &mut [u32], first: NodeNumber, s: State) -> Added
-    requires { ⌜ Ready (now src) (now toks) (now tree) s 1 ⌝ }
-    requires { ⌜ first .0 < s .nodes ⌝ }
-    ensures { λ r. ⌜ ((room : ℕ) → Parts (now (src .entry)) (now (toks .entry)) room (tail Comma (more name) ⨾ act list-done) (growing (first .0) (first .0) ∷ []) a-list s (now (tree .entry)) (parsed.Node (r .0) (r .1)) (now (tree .exit))) ⌝ }
-{
-    let mut last = first;
-    let mut st = s;
-    loop {
-        let at = st.at;
-        if leaves::is_symbol(leaves::symbol_at(src, toks, at), token::COMMA) {
-            let t = at.0 + 1;
-            let next = TokenNumber(t);
-            if leaves::is_name(leaves::symbol_at(src, toks, next)) {
-                let u = t + 1;
-                let on = State {
-                    at: TokenNumber(u),
-                    nodes: st.nodes,
-                    opened: st.opened,
-                    used: st.used,
-                };
-                let made = leaves::put_named(toks, tree, ast::NAME, on);
-                let n = made.0;
-                let after = made.1;
-                leaves::link(tree, last, n, after);
-                last = n;
-                st = after;
-            } else {
-                let on = State {
-                    at: next,
-                    nodes: st.nodes,
-                    opened: st.opened,
-                    used: st.used,
-                };
-                return Added(first, on);
-            }
-        } else {
-            return Added(first, st);
-        }
-    }
-}
-
-// t: E separated by commas. One E alone stays that E; more make a Tuple.
-pub fn comma_list(src: &[u8], toks: &[u32], tree: &mut [u32], left: u32, s: State) -> Parsed
-    requires { ⌜ Ready (now src) (now toks) (now tree) s 3 ⌝ }
-    ensures { λ r. ⌜ Parts (now (src .entry)) (now (toks .entry)) left tJoined [] a-node s (now (tree .entry)) r (now (tree .exit)) ⌝ }
-{
-    let inner = enter(src, toks, tree, left, s);
-    match inner {
-        Parsed::Node(n, after) => {
-            let at = after.at;
-            if leaves::is_symbol(leaves::symbol_at(src, toks, at), token::COMMA) {
-                let t = at.0 + 1;
-                let on = State {
-                    at: TokenNumber(t),
-                    nodes: after.nodes,
-                    opened: after.opened,
-                    used: after.used,
-                };
-                comma_rest(src, toks, tree, left, n, on)
-            } else {
-                Parsed::Node(n, after)
-            }
-        }
-        Parsed::Refused(code, after) => Parsed::Refused(code, after),
-    }
-}
-
-// After the first comma of t.
-fn comma_rest(
-    src: &[u8],
-    toks: &[u32],
-    tree: &mut [u32],
-    left: u32,
-    first: NodeNumber,
-    s: State,
-) -> Parsed
-    requires { ⌜ Ready (now src) (now toks) (now tree) s 1 ⌝ }
-    requires { ⌜ first .0 < s .nodes ⌝ }
-    ensures { λ r. ⌜ Parts (now (src .entry)) (now (toks .entry)) left tOn (node (first .0) ∷ []) a-node s (now (tree .entry)) r (now (tree .exit)) ⌝ }
-{
-    let at = s.at;
-    if leaves::begins_e(leaves::symbol_at(src, toks, at)) {
-        let inner = rule_e(src, toks, tree, left, s);
-        match inner {
-            Parsed::Node(n, after) => {
-                leaves::link(tree, first, n, after);
-                let more = rest(src, toks, tree, left, first, n, after);
-                match more {
-                    Parsed::Node(head, done) => {
-                        let made = leaves::put_tuple(toks, tree, head, done);
-                        let m = made.0;
-                        let end = made.1;
-                        Parsed::Node(m, end)
-                    }
-                    Parsed::Refused(code, done) => Parsed::Refused(code, done),
-                }
-            }
-            Parsed::Refused(code, after) => Parsed::Refused(code, after),
-        }
-    } else {
-        Parsed::Node(first, s)
     }
 }

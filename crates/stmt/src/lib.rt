@@ -21,13 +21,14 @@ ghost use Rattle.leaves.specs.Tokens.{eofAt, textBefore, symbolAt, Tokens};
 ghost use Rattle.leaves.specs.Contract.{a-node, a-list, a-growing, Rules, Parts, Ready, Begun};
 ghost use Rattle.simple.specs.Parts.{Newest};
 ghost use Rattle.stmt.specs.Parts.{linesRest, inner, indentedOn, classOn, methodsOn, methodsRest, classEnd, namedOn, givenOn, elifsOn, elifsRest, elseOn, branches, ifOn, elifOn, whileOn, rangeOn, forOn};
+
 mod whole;
 
 use leaves::Parsed;
 use leaves::State;
-pub use whole::program;
 use token::NodeNumber;
 use token::TokenNumber;
+pub use whole::program;
 
 // "at most 64 E and Block open at once" (01, Questions).
 pub const DEPTH: u32 = 64;

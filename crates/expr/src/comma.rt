@@ -1,0 +1,77 @@
+// t, outside brackets: E separated by commas, trailing allowed.
+ghost use mathlib.Core.List.{[], _∷_};
+ghost use Prim.Native.Nat.{_<_};
+ghost use Rattle.pyhyeon.specs.Machine.{node};
+ghost use Rattle.pyhyeon.specs.Tables.{tJoined};
+ghost use Rattle.leaves.specs.Contract.{a-node, Parts, Ready};
+ghost use Rattle.expr.specs.Parts.{tOn};
+use crate::enter;
+use crate::rest;
+use crate::rule_e;
+use leaves::Parsed;
+use leaves::State;
+use token::NodeNumber;
+use token::TokenNumber;
+
+// t: E separated by commas. One E alone stays that E; more make a Tuple.
+pub fn comma_list(src: &[u8], toks: &[u32], tree: &mut [u32], left: u32, s: State) -> Parsed
+    requires { ⌜ Ready (now src) (now toks) (now tree) s 3 ⌝ }
+    ensures { λ r. ⌜ Parts (now (src .entry)) (now (toks .entry)) left tJoined [] a-node s (now (tree .entry)) r (now (tree .exit)) ⌝ }
+{
+    let inner = enter(src, toks, tree, left, s);
+    match inner {
+        Parsed::Node(n, after) => {
+            let at = after.at;
+            if leaves::is_symbol(leaves::symbol_at(src, toks, at), token::COMMA) {
+                let t = at.0 + 1;
+                let on = State {
+                    at: TokenNumber(t),
+                    nodes: after.nodes,
+                    opened: after.opened,
+                    used: after.used,
+                };
+                comma_rest(src, toks, tree, left, n, on)
+            } else {
+                Parsed::Node(n, after)
+            }
+        }
+        Parsed::Refused(code, after) => Parsed::Refused(code, after),
+    }
+}
+
+// After the first comma of t.
+fn comma_rest(
+    src: &[u8],
+    toks: &[u32],
+    tree: &mut [u32],
+    left: u32,
+    first: NodeNumber,
+    s: State,
+) -> Parsed
+    requires { ⌜ Ready (now src) (now toks) (now tree) s 1 ⌝ }
+    requires { ⌜ first .0 < s .nodes ⌝ }
+    ensures { λ r. ⌜ Parts (now (src .entry)) (now (toks .entry)) left tOn (node (first .0) ∷ []) a-node s (now (tree .entry)) r (now (tree .exit)) ⌝ }
+{
+    let at = s.at;
+    if leaves::begins_e(leaves::symbol_at(src, toks, at)) {
+        let inner = rule_e(src, toks, tree, left, s);
+        match inner {
+            Parsed::Node(n, after) => {
+                leaves::link(tree, first, n, after);
+                let more = rest(src, toks, tree, left, first, n, after);
+                match more {
+                    Parsed::Node(head, done) => {
+                        let made = leaves::put_tuple(toks, tree, head, done);
+                        let m = made.0;
+                        let end = made.1;
+                        Parsed::Node(m, end)
+                    }
+                    Parsed::Refused(code, done) => Parsed::Refused(code, done),
+                }
+            }
+            Parsed::Refused(code, after) => Parsed::Refused(code, after),
+        }
+    } else {
+        Parsed::Node(first, s)
+    }
+}

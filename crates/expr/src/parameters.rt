@@ -1,0 +1,81 @@
+// The names of a lambda, Def or Method.
+ghost use mathlib.Core.Path.{_≡_};
+ghost use mathlib.Core.List.{[], _∷_};
+ghost use Prim.Native.Nat.{ℕ, _<_};
+ghost use Rattle.grammar.specs.Grammar.{tail, act, _⨾_};
+ghost use Rattle.token.specs.Code.{Comma};
+ghost use Rattle.pyhyeon.specs.Machine.{growing};
+ghost use Rattle.pyhyeon.specs.Rules.{parameters, more};
+ghost use Rattle.pyhyeon.specs.Action.{list-done};
+ghost use Rattle.leaves.specs.declared.Parsed.the-variants as parsed;
+ghost use Rattle.leaves.specs.Contract.{a-list, Parts, Ready};
+ghost use Rattle.expr.specs.Parts.{name};
+use leaves::Added;
+use leaves::State;
+use token::NodeNumber;
+use token::TokenNumber;
+
+// A list of names, which may be empty.
+pub fn names(src: &[u8], toks: &[u32], tree: &mut [u32], s: State) -> Added
+    requires { ⌜ Ready (now src) (now toks) (now tree) s 1 ⌝ }
+    ensures { λ r. ⌜ ((room : ℕ) → Parts (now (src .entry)) (now (toks .entry)) room parameters [] a-list s (now (tree .entry)) (parsed.Node (r .0) (r .1)) (now (tree .exit))) ⌝ }
+{
+    let at = s.at;
+    if leaves::is_name(leaves::symbol_at(src, toks, at)) {
+        let t = at.0 + 1;
+        let on = State {
+            at: TokenNumber(t),
+            nodes: s.nodes,
+            opened: s.opened,
+            used: s.used,
+        };
+        let made = leaves::put_named(toks, tree, ast::NAME, on);
+        let first = made.0;
+        let after = made.1;
+        names_rest(src, toks, tree, first, after)
+    } else {
+        Added(NodeNumber(ast::NONE_NODE), s)
+    }
+}
+
+// The rest of a list of names.
+fn names_rest(src: &[u8], toks: &[u32], tree: &mut [u32], first: NodeNumber, s: State) -> Added
+    requires { ⌜ Ready (now src) (now toks) (now tree) s 1 ⌝ }
+    requires { ⌜ first .0 < s .nodes ⌝ }
+    ensures { λ r. ⌜ ((room : ℕ) → Parts (now (src .entry)) (now (toks .entry)) room (tail Comma (more name) ⨾ act list-done) (growing (first .0) (first .0) ∷ []) a-list s (now (tree .entry)) (parsed.Node (r .0) (r .1)) (now (tree .exit))) ⌝ }
+{
+    let mut last = first;
+    let mut st = s;
+    loop {
+        let at = st.at;
+        if leaves::is_symbol(leaves::symbol_at(src, toks, at), token::COMMA) {
+            let t = at.0 + 1;
+            let next = TokenNumber(t);
+            if leaves::is_name(leaves::symbol_at(src, toks, next)) {
+                let u = t + 1;
+                let on = State {
+                    at: TokenNumber(u),
+                    nodes: st.nodes,
+                    opened: st.opened,
+                    used: st.used,
+                };
+                let made = leaves::put_named(toks, tree, ast::NAME, on);
+                let n = made.0;
+                let after = made.1;
+                leaves::link(tree, last, n, after);
+                last = n;
+                st = after;
+            } else {
+                let on = State {
+                    at: next,
+                    nodes: st.nodes,
+                    opened: st.opened,
+                    used: st.used,
+                };
+                return Added(first, on);
+            }
+        } else {
+            return Added(first, st);
+        }
+    }
+}
