@@ -4,3 +4,4 @@ pub mod Ends
 pub mod Loops
 pub mod Passing
 pub mod Promised
+pub mod Handed

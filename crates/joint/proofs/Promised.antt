@@ -116,6 +116,12 @@ module _ (s : List ℕ) (ts : List Token) (bs : List ℕ) where
       let n : eofAt (words ts) + 1 ≡ length ts = omega (arith, eof-words ts, front-length (tokens-end s ts bs e)) in
       rw n (tokens-along 0 (tokens-valued s ts bs e) (record { rest = refl }) refl)
 
+  -- T is the number of tokens without Eof
+  pub tokens-counted : tokenList s ≡ scanned ts bs → before Eof (symbols s ts) ≡ length ts - 1
+  tokens-counted e =
+      let l = tokens-end s ts bs e in
+      ap (λ us. before Eof (symbols s us)) (l .last) ∙ before-last s (length s) (l .once) ∙ omega (arith, front-length l)
+
   -- and what code may ask of words holds of them
   pub promised : length s ≤ 65536 → tokenList s ≡ scanned ts bs → Tokens s (words ts)
   unfolding textBefore
@@ -127,7 +133,7 @@ module _ (s : List ℕ) (ts : List Token) (bs : List ℕ) where
       let z : (t : ℕ) → 0 + t ≡ t = λ t. omega arith in
       record {
         whole = omega (arith, length-words ts);
-        ends = rw (tokens-same e) (ap (λ us. before Eof (symbols s us)) (l .last) ∙ before-last s (length s) (l .once) ∙ omega arith);
+        ends = rw (tokens-same e) (tokens-counted e ∙ omega arith);
         few = omega (arith, tokens-few s ts bs e);
         small = h;
         span = λ t k. rw (z t) at (span-along {src = s} 0 t (tokens-spanned s ts bs e) whole-list (omega arith));

@@ -4,7 +4,7 @@ use mathlib.Core.Path.{sym}
 use Prim.Native.Nat.{_+_, _*_}
 use native.Mathlib.Omega.{arith}
 use lib.Seq.{length-take-le}
-use Rattle.expr_cases.proofs.Handed.{handed}
+use Rattle.joint.proofs.Handed.{handed}
 use borrow.Author.Needs.{needs}
 use Rattle.expr_cases.proofs.answers.print_answer.Statement.{statement}
 use Rattle.expr_cases.proofs.answers.print_answer.Tie as tie
@@ -34,35 +34,35 @@ add-words : tie.Need-add-words
 add-words c =
     let at-count = c .before in
     let at-scan = at-count .before .before .before .before in
-    let h = handed (at-scan .scan .ensures) _ _ (omega arith) (at-count .count .given .1) in
+    let h = handed (at-scan .scan .ensures) (omega arith) (at-count .count .given .1) in
     omega arith
 
 mul-words : tie.Need-mul-words
 mul-words c =
     let at-count = c .before in
     let at-scan = at-count .before .before .before .before in
-    let h = handed (at-scan .scan .ensures) _ _ (omega arith) (at-count .count .given .1) in
+    let h = handed (at-scan .scan .ensures) (omega arith) (at-count .count .given .1) in
     omega arith
 
 array-share-prefix-tokens : tie.Need-array-share-prefix-tokens
 array-share-prefix-tokens c =
     let at-count = c .before in
     let at-scan = at-count .before .before .before .before in
-    let h = handed (at-scan .scan .ensures) _ _ (omega arith) (at-count .count .given .1) in
+    let h = handed (at-scan .scan .ensures) (omega arith) (at-count .count .given .1) in
     omega arith
 
 slice-aggregate-print-tree : tie.Need-slice-aggregate-print-tree
 slice-aggregate-print-tree c =
     let at-count = c .before .before in
     let at-scan = at-count .before .before .before .before in
-    let h = handed (at-scan .scan .ensures) _ _ (omega arith) (at-count .count .given .1) in
+    let h = handed (at-scan .scan .ensures) (omega arith) (at-count .count .given .1) in
     sym (length-take-le _ _ (omega arith))
 
 print-tree-requires : tie.Need-print-tree-requires
 print-tree-requires c κs =
     let at-count = c .before .before in
     let at-scan = at-count .before .before .before .before in
-    let h = handed (at-scan .scan .ensures) _ _ (omega arith) (at-count .count .given .1) in
+    let h = handed (at-scan .scan .ensures) (omega arith) (at-count .count .given .1) in
     (h .held, omega (arith, length-take-le (3 * (at-count .count .given .0 .0 + 1)) (at-scan .scan .last .1 .0) (omega arith)))
 
 enum-known-number : tie.Need-enum-known-number

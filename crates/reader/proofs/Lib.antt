@@ -1,0 +1,6 @@
+pub mod Filled
+pub mod Came
+pub mod Read
+pub mod Derived
+pub mod Asked
+mod Examples

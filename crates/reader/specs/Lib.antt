@@ -1,0 +1,4 @@
+pub mod Answer
+pub mod Outcome
+pub mod Reads
+pub mod Steps
