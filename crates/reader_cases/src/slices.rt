@@ -59,9 +59,19 @@ fn replay_small(src: &[u8], a: u8, b: u8, c: u8)
     replay_in(src, &mut tokens, &mut text, &mut tree, a, b, c);
 }
 
-// The tree's words for a source up to 65,537 bytes and 9 more. Of what a function answers the checker knows the length, and need not count so far.
-fn large_tree() -> [u32; 1048617] {
-    [GUARD_WORD; 1048617]
+// The tree's words are so many that the checker can't count them where they are made. Of a parameter it knows the length.
+fn replay_in_tree(
+    src: &[u8],
+    tokens: &mut [u32],
+    text: &mut [u8],
+    tree: &mut [u32; 1048617],
+    a: u8,
+    b: u8,
+    c: u8,
+)
+    requires { ⌜ length (now src) ≤ 65600 ⌝ }
+{
+    replay_in(src, tokens, text, tree, a, b, c);
 }
 
 // The same up to 65,537 bytes.
@@ -70,8 +80,8 @@ fn replay_large(src: &[u8], a: u8, b: u8, c: u8)
 {
     let mut tokens = [GUARD_WORD; 196623];
     let mut text = [GUARD_BYTE; 65546];
-    let mut tree = large_tree();
-    replay_in(src, &mut tokens, &mut text, &mut tree, a, b, c);
+    let mut tree = [GUARD_WORD; 1048617];
+    replay_in_tree(src, &mut tokens, &mut text, &mut tree, a, b, c);
 }
 
 pub fn replay(src: &[u8], a: u8, b: u8, c: u8)
