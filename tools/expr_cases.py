@@ -157,4 +157,5 @@ def main():
     print(f"{len(kept)} sources, {len(text)} bytes; " + ", ".join(f"{o}: {outcomes[o]}" for o in sorted(outcomes, key=lambda o: (len(o), o))))
 
 
-main()
+if __name__ == "__main__":
+    main()
