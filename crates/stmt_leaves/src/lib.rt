@@ -2,8 +2,8 @@
 // statement. Their contracts are those of the other leaves: specs/Contract.antt there.
 mod blocks;
 mod newlines;
+mod one_line;
 mod sets;
-mod simple;
 
 pub use blocks::put_class;
 pub use blocks::put_def;
@@ -14,9 +14,9 @@ pub use blocks::put_if;
 pub use blocks::put_program;
 pub use blocks::put_while;
 pub use newlines::skip_newlines;
+pub use one_line::put_alone;
+pub use one_line::put_assign;
+pub use one_line::put_expr;
+pub use one_line::put_return;
 pub use sets::begins_line;
 pub use sets::begins_simple;
-pub use simple::put_alone;
-pub use simple::put_assign;
-pub use simple::put_expr;
-pub use simple::put_return;

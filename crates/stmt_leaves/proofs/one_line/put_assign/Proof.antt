@@ -2,8 +2,8 @@
 -- Assumes nothing.
 use Rattle.stmt_leaves.proofs.Acts.{assign-wrote}
 use borrow.Author.Needs.{needs}
-use Rattle.stmt_leaves.proofs.simple.put_assign.Statement.{statement}
-use Rattle.stmt_leaves.proofs.simple.put_assign.Tie as tie
+use Rattle.stmt_leaves.proofs.one_line.put_assign.Statement.{statement}
+use Rattle.stmt_leaves.proofs.one_line.put_assign.Tie as tie
 
 sub-t : tie.Need-sub-t
 sub-t c = search needs

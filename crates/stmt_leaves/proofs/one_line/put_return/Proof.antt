@@ -5,8 +5,8 @@ use Rattle.pyhyeon.specs.Machine.{number}
 use Rattle.pyhyeon.specs.Action.{perform}
 use Rattle.stmt_leaves.proofs.Acts.{opened-wrote}
 use borrow.Author.Needs.{needs}
-use Rattle.stmt_leaves.proofs.simple.put_return.Statement.{statement}
-use Rattle.stmt_leaves.proofs.simple.put_return.Tie as tie
+use Rattle.stmt_leaves.proofs.one_line.put_return.Statement.{statement}
+use Rattle.stmt_leaves.proofs.one_line.put_return.Tie as tie
 
 put-opened-requires : tie.Need-put-opened-requires
 put-opened-requires c κs = search needs

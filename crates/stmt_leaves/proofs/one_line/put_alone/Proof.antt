@@ -6,8 +6,8 @@ use Rattle.pyhyeon.specs.Machine.{number}
 use Rattle.pyhyeon.specs.Action.{perform}
 use Rattle.stmt_leaves.proofs.Acts.{opened-wrote}
 use borrow.Author.Needs.{needs}
-use Rattle.stmt_leaves.proofs.simple.put_alone.Statement.{statement}
-use Rattle.stmt_leaves.proofs.simple.put_alone.Tie as tie
+use Rattle.stmt_leaves.proofs.one_line.put_alone.Statement.{statement}
+use Rattle.stmt_leaves.proofs.one_line.put_alone.Tie as tie
 
 sub-t : tie.Need-sub-t
 sub-t c = search needs

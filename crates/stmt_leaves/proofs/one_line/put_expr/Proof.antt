@@ -5,8 +5,8 @@ use Rattle.pyhyeon.specs.Machine.{number}
 use Rattle.pyhyeon.specs.Action.{perform}
 use Rattle.stmt_leaves.proofs.Acts.{begun-wrote}
 use borrow.Author.Needs.{needs}
-use Rattle.stmt_leaves.proofs.simple.put_expr.Statement.{statement}
-use Rattle.stmt_leaves.proofs.simple.put_expr.Tie as tie
+use Rattle.stmt_leaves.proofs.one_line.put_expr.Statement.{statement}
+use Rattle.stmt_leaves.proofs.one_line.put_expr.Tie as tie
 
 put-begun-requires : tie.Need-put-begun-requires
 put-begun-requires c κs = search needs
