@@ -101,6 +101,16 @@ pub record Passed (src toks : List ℕ) (out : Shape) (s : State) (n : NodeNumbe
   pub held : Fit (s′ .nodes) (out (n .0) (s′ .nodes))
   pub used : s′ .used ≡ textBefore src toks (s′ .at .0)
 
+-- the same of any part, by the tokens that it takes at least
+record Counted (src toks : List ℕ) (high : ℕ) (p : Part Action Rule) (out : Shape) (s : State) (n : NodeNumber) (s′ : State) : Type 0 where
+  on : s .at .0 + takes least p ≤ s′ .at .0
+  here : s′ .at .0 ≤ eofAt toks
+  kept : s .nodes ≤ s′ .nodes
+  nodes : s′ .nodes + 2 * s .at .0 ≤ s .nodes + 2 * s′ .at .0
+  opened : s′ .opened + 10 * s .at .0 + 10 ≤ s .opened + high + 10 * s′ .at .0
+  held : Fit (s′ .nodes) (out (n .0) (s′ .nodes))
+  used : s′ .used ≡ textBefore src toks (s′ .at .0)
+
 -- what is held of a node, and of a list in the making
 module _ {src toks : List ℕ} {s : State} {n : NodeNumber} {s′ : State} where
   pub came-node : {high : ℕ} → Came src toks high a-node s n s′ → n .0 < s′ .nodes
@@ -185,58 +195,63 @@ module _ (src toks : List ℕ) (w : Tokens src toks) where
       go true m = came r room out s tr p (before-eof (first r) outside w h m) (rw (sees-at src toks (first r) (s .at .0) h ∙ m) at (reads .comes [] .told)) e
       go false m = let x = is-node (rw (sees-at src toks (first r) (s .at .0) h ∙ m) at (reads .comes [] .told)) e in let z : _≡_ {A = ℕ} 0 1 = cc in absurd (omega arith)
 
-  -- a part with the values `ins` at hand: one that takes a token
+  -- a part with the values `ins` at hand, by where it stands
+  module _ (ins : List Value) {high : ℕ} {p : Part Action Rule} {room : ℕ} {out : Shape} {s : State} {tr : List ℕ} {a : Parsed} {tr′ : List ℕ} {n : NodeNumber} {s′ : State} where
+    counts : T (clean pyhyeon Eof p) → T (low pyhyeon 10 high p) → T (afford prices 0 p) → s .at .0 ≤ eofAt toks → Stands pyhyeon prices frugal (meter src (tokensOf src toks)) p high (state src toks s tr (ins ++ [])) →
+        owed (ins ++ []) ≡ 0 → Held (s .nodes) (ins ++ []) → Parts src toks room p ins out s tr a tr′ → a ≡ Node n s′ → Counted src toks high p out s n s′
+    unfolding state meter counted owed Held
+    counts tidy lower cost h stands none all reads e =
+        let st = state src toks s tr (ins ++ []) in
+        let x : walk first (descend pyhyeon room) p (s .opened) st ≡ done (s′ .opened) (state src toks s′ tr′ (out (n .0) (s′ .nodes) ∷ [])) = is-node (reads .comes [] .told) e in
+        let b = left (s .at .0) h in
+        let c = at-done (walk-counts pyhyeon prices frugal (meter src (tokensOf src toks)) room p high 0 (s .opened) st tidy lower cost stands) x in
+        let d = at-done (walk-along (keeps src (tokensOf src toks)) pyhyeon room p (s .opened) st) x in
+        let m = length-nodes tr (s .nodes) in
+        let m′ = length-nodes tr′ (s′ .nodes) in
+        record {
+          on = omega (arith, c .on);
+          here = omega (arith, c .sum);
+          kept = omega (arith, d .grows);
+          nodes = omega (arith, c .written);
+          opened = omega (arith, c .opened);
+          held = rw m′ at (d .held (rw m all) .0);
+          used = is-used (reads .comes [] .told) e;
+        }
+
+  -- one that takes a token, and is read on one before the end
   pub came-part : (ins : List Value) {high : ℕ} {p : Part Action Rule} {room : ℕ} {out : Shape} {s : State} {tr : List ℕ} {a : Parsed} {tr′ : List ℕ} {n : NodeNumber} {s′ : State} → Taking high p → s .at .0 < eofAt toks →
       owed (ins ++ []) ≡ 0 → Held (s .nodes) (ins ++ []) → Parts src toks room p ins out s tr a tr′ → a ≡ Node n s′ → Came src toks high out s n s′
-  unfolding state meter counted owed Held
-  came-part ins {high = high} {p = p} {room = room} {out = out} {s = s} {tr = tr} {tr′ = tr′} {n = n} {s′ = s′} t h none all reads e =
-      let st = state src toks s tr (ins ++ []) in
-      let x : walk first (descend pyhyeon room) p (s .opened) st ≡ done (s′ .opened) (state src toks s′ tr′ (out (n .0) (s′ .nodes) ∷ [])) = is-node (reads .comes [] .told) e in
-      let b = left (s .at .0) (omega arith) in
+  unfolding state
+  came-part ins {high} {p} {s = s} t h none all reads e =
       let some = ltb→lt 0 (takes least p) (t .some) in
-      let c = at-done (walk-counts pyhyeon prices frugal (meter src (tokensOf src toks)) room p high 0 (s .opened) st (t .tidy) (t .lower) (t .pays) (on-token (leb→le high 10 (t .few)) some (omega arith))) x in
-      let d = at-done (walk-along (keeps src (tokensOf src toks)) pyhyeon room p (s .opened) st) x in
-      let m = length-nodes tr (s .nodes) in
-      let m′ = length-nodes tr′ (s′ .nodes) in
-      record {
-        on = omega (arith, c .on);
-        here = omega (arith, c .sum);
-        kept = omega (arith, d .grows);
-        nodes = omega (arith, c .written);
-        opened = omega (arith, c .opened);
-        held = rw m′ at (d .held (rw m all) .0);
-        used = is-used (reads .comes [] .told) e;
-      }
+      let b = left (s .at .0) (omega arith) in
+      let g = counts ins (t .tidy) (t .lower) (t .pays) (omega arith) (on-token (leb→le high 10 (t .few)) some (omega arith)) none all reads e in
+      record { on = omega arith; here = g .here; kept = g .kept; nodes = g .nodes; opened = g .opened; held = g .held; used = g .used }
 
-  -- and any, where no rule was opened on the token at hand
+  -- any, where no rule was opened on the token at hand; and one that takes a token
   pub passed-part : (ins : List Value) {p : Part Action Rule} {room : ℕ} {out : Shape} {s : State} {tr : List ℕ} {a : Parsed} {tr′ : List ℕ} {n : NodeNumber} {s′ : State} → Modest p → s .at .0 ≤ eofAt toks →
       owed (ins ++ []) ≡ 0 → Held (s .nodes) (ins ++ []) → Parts src toks room p ins out s tr a tr′ → a ≡ Node n s′ → Passed src toks out s n s′
-  unfolding state meter counted owed Held
-  passed-part ins {p = p} {room = room} {out = out} {s = s} {tr = tr} {tr′ = tr′} {n = n} {s′ = s′} t h none all reads e =
-      let st = state src toks s tr (ins ++ []) in
-      let x : walk first (descend pyhyeon room) p (s .opened) st ≡ done (s′ .opened) (state src toks s′ tr′ (out (n .0) (s′ .nodes) ∷ [])) = is-node (reads .comes [] .told) e in
-      let b = left (s .at .0) h in
-      let c = at-done (walk-counts pyhyeon prices frugal (meter src (tokensOf src toks)) room p 10 0 (s .opened) st (t .tidy) (t .lower) (t .pays) fresh) x in
-      let d = at-done (walk-along (keeps src (tokensOf src toks)) pyhyeon room p (s .opened) st) x in
-      let m = length-nodes tr (s .nodes) in
-      let m′ = length-nodes tr′ (s′ .nodes) in
-      record {
-        on = omega (arith, c .on);
-        here = omega (arith, c .sum);
-        kept = omega (arith, d .grows);
-        nodes = omega (arith, c .written);
-        opened = omega (arith, c .opened);
-        held = rw m′ at (d .held (rw m all) .0);
-        used = is-used (reads .comes [] .told) e;
-      }
+  passed-part ins t h none all reads e =
+      let g = counts ins (t .tidy) (t .lower) (t .pays) h fresh none all reads e in
+      record { on = omega arith; here = g .here; kept = g .kept; nodes = g .nodes; opened = omega arith; held = g .held; used = g .used }
+
+  pub came-some : (ins : List Value) {p : Part Action Rule} {room : ℕ} {out : Shape} {s : State} {tr : List ℕ} {a : Parsed} {tr′ : List ℕ} {n : NodeNumber} {s′ : State} → Modest p → T (ltb 0 (takes least p)) → s .at .0 ≤ eofAt toks →
+      owed (ins ++ []) ≡ 0 → Held (s .nodes) (ins ++ []) → Parts src toks room p ins out s tr a tr′ → a ≡ Node n s′ → Came src toks 10 out s n s′
+  came-some ins {p} t some h none all reads e =
+      let l = ltb→lt 0 (takes least p) some in
+      let g = counts ins (t .tidy) (t .lower) (t .pays) h fresh none all reads e in
+      record { on = omega arith; here = g .here; kept = g .kept; nodes = g .nodes; opened = g .opened; held = g .held; used = g .used }
 
   -- the same with nothing at hand
-  pub came-start : {high : ℕ} {p : Part Action Rule} {room : ℕ} {out : Shape} {s : State} {tr : List ℕ} {a : Parsed} {tr′ : List ℕ} {n : NodeNumber} {s′ : State} → Taking high p → s .at .0 < eofAt toks →
-      Parts src toks room p [] out s tr a tr′ → a ≡ Node n s′ → Came src toks high out s n s′
-  unfolding owed Held
-  came-start t h reads e = came-part [] t h refl tt reads e
+  module _ {p : Part Action Rule} {room : ℕ} {out : Shape} {s : State} {tr : List ℕ} {a : Parsed} {tr′ : List ℕ} {n : NodeNumber} {s′ : State} where
+    pub came-start : {high : ℕ} → Taking high p → s .at .0 < eofAt toks → Parts src toks room p [] out s tr a tr′ → a ≡ Node n s′ → Came src toks high out s n s′
+    unfolding owed Held
+    came-start t h reads e = came-part [] t h refl tt reads e
 
-  pub passed-start : {p : Part Action Rule} {room : ℕ} {out : Shape} {s : State} {tr : List ℕ} {a : Parsed} {tr′ : List ℕ} {n : NodeNumber} {s′ : State} → Modest p → s .at .0 ≤ eofAt toks →
-      Parts src toks room p [] out s tr a tr′ → a ≡ Node n s′ → Passed src toks out s n s′
-  unfolding owed Held
-  passed-start t h reads e = passed-part [] t h refl tt reads e
+    pub passed-start : Modest p → s .at .0 ≤ eofAt toks → Parts src toks room p [] out s tr a tr′ → a ≡ Node n s′ → Passed src toks out s n s′
+    unfolding owed Held
+    passed-start t h reads e = passed-part [] t h refl tt reads e
+
+    pub came-fresh : Modest p → T (ltb 0 (takes least p)) → s .at .0 ≤ eofAt toks → Parts src toks room p [] out s tr a tr′ → a ≡ Node n s′ → Came src toks 10 out s n s′
+    unfolding owed Held
+    came-fresh t some h reads e = came-some [] t some h refl tt reads e
