@@ -1,0 +1,56 @@
+-- `simple::line_end` meets its contract: Newline or the end.
+-- Assumes nothing.
+use Rattle.simple.proofs.Laws.{see-end, see-no, tok-end}
+use Rattle.joint.proofs.Chain.{or-first, or-next}
+use Rattle.leaves.proofs.Tests.{coded, not-first}
+use Rattle.leaves.proofs.Tokens.{took}
+use Rattle.grammar.specs.Descent.{null, begins}
+use Rattle.token.specs.Code as code
+use native.Mathlib.Omega.{arith}
+use mathlib.Core.Path.{refl, sym, _∙_}
+use mathlib.Core.List.{[], _∷_}
+use borrow.Author.Needs.{needs}
+use Rattle.simple.proofs.line_end.Statement.{statement}
+use Rattle.simple.proofs.line_end.Tie as tie
+
+symbol-at-requires : tie.Need-symbol-at-requires
+symbol-at-requires c κs =
+    let at-start = c .before .before .before in
+    (at-start .pre .0, at-start .pre .1 .0)
+
+add-t : tie.Need-add-t
+add-t c =
+    let at-start = c .before .before .before .before .before .before in
+    let r = at-start .pre .0 in
+    let h = at-start .pre .1 .0 in
+    omega arith
+
+returns : tie.Need-returns
+unfolding begins null
+returns c =
+    let at-match = c .before in
+    let at-symbol-at = at-match .before in
+    let at-start = at-symbol-at .before .before .before .before in
+    let h = at-start .pre .1 .0 in
+    let e = coded (code.Newline ∷ []) 48 (at-symbol-at .symbol-at .ensures) (at-match .match .keys1) refl in
+    let l = took (code.Newline ∷ []) refl refl (at-start .pre .0) h e in
+    λ room tr. record { comes = λ vs. or-first h e (tok-end h e (at-start .pre .1 .1 ∙ sym (l .text))) }
+
+returns-2 : tie.Need-returns-2
+unfolding begins null
+returns-2 c =
+    let at-symbol-at = c .before in
+    let at-start = at-symbol-at .before .before .before .before in
+    let h = at-start .pre .1 .0 in
+    λ room tr. record { comes = λ vs. or-next h (coded (code.Newline ∷ []) 49 (at-symbol-at .symbol-at .ensures) (c .match .keys2) refl) (see-end h (coded (code.Eof ∷ []) 49 (at-symbol-at .symbol-at .ensures) (c .match .keys2) refl) (at-start .pre .1 .1)) }
+
+returns-3 : tie.Need-returns-3
+unfolding begins null
+returns-3 c =
+    let at-symbol-at = c .before in
+    let at-start = at-symbol-at .before .before .before .before in
+    let h = at-start .pre .1 .0 in
+    λ room tr. record { comes = λ vs. or-next h (not-first 48 [] (at-symbol-at .symbol-at .ensures) (c .match .rest .0 .1)) (see-no h (not-first 49 [] (at-symbol-at .symbol-at .ensures) (c .match .rest .1))) }
+
+pub line-end-spec : {M : Type 1} → statement M
+line-end-spec = tie.close (tie.spec symbol-at-requires add-t returns returns-2 returns-3)
