@@ -1,5 +1,10 @@
 -- `stmt::block`, a member of the cycle.
 -- Assumes nothing.
+use mathlib.Core.List.{[], _∷_}
+use Rattle.token.specs.Code as code
+use Rattle.pyhyeon.specs.Tables.{first}
+use Rattle.leaves.proofs.Tests.{learnt}
+use Rattle.joint.proofs.Chain.{called, no-call}
 use borrow.Author.Needs.{needs}
 use native.Mathlib.Omega.{arith}
 use Prim.Native.Nat.{ℕ}
@@ -15,22 +20,47 @@ calls t = (symbol-at-reads.Asked, symbol-at-reads.Learnt, is-symbol-reads.Asked,
 
 module _ (t : ℕ) where
   symbol-at-requires : lts.Need-symbol-at-requires (calls t) (block-at t) reads.Post
-  symbol-at-requires c κs = ?
+  symbol-at-requires c κs =
+      let at-start = c .before .before .before .before in
+      (at-start .pre .1 .tokens, at-start .pre .1 .here)
 
   is-symbol-requires : lts.Need-is-symbol-requires (calls t) (block-at t) reads.Post
-  is-symbol-requires c κs = ?
+  is-symbol-requires c κs = search needs
 
   rule-block-requires : lts.Need-rule-block-requires (calls t) (block-at t) reads.Post
-  rule-block-requires c κs = ?
+  unfolding first
+  rule-block-requires c κs =
+      let at-if1 = c .before in
+      let at-is-symbol = at-if1 .before in
+      let at-symbol-at = at-is-symbol .before in
+      let at-start = at-symbol-at .before .before .before .before .before in
+      let e = learnt (code.Colon ∷ []) (at-if1 .if1 .taken) (at-is-symbol .is-symbol .ensures) (at-symbol-at .symbol-at .ensures) in
+      (omega (arith, at-start .pre .0), (at-start .pre .1, record { seen = e }))
 
   same-length : lts.Need-same-length (calls t) (block-at t) reads.Post
-  same-length c = ?
+  same-length c = search needs
 
   returns : lts.Need-returns (calls t) (block-at t) reads.Post
-  returns c = ?
+  unfolding first
+  returns c =
+      let at-rule-block = c .before .before in
+      let at-if1 = at-rule-block .before .before in
+      let at-is-symbol = at-if1 .before in
+      let at-symbol-at = at-is-symbol .before in
+      let at-start = at-symbol-at .before .before .before .before .before in
+      let r = at-start .pre .1 in
+      let e = learnt (code.Colon ∷ []) (at-if1 .if1 .taken) (at-is-symbol .is-symbol .ensures) (at-symbol-at .symbol-at .ensures) in
+      called (r .here) e (at-rule-block .rule-block .ensures)
 
   returns-2 : lts.Need-returns-2 (calls t) (block-at t) reads.Post
-  returns-2 c = ?
+  unfolding first
+  returns-2 c =
+      let at-is-symbol = c .before in
+      let at-symbol-at = at-is-symbol .before in
+      let at-start = at-symbol-at .before .before .before .before .before in
+      let r = at-start .pre .1 in
+      let e = learnt (code.Colon ∷ []) (c .if1 .left) (at-is-symbol .is-symbol .ensures) (at-symbol-at .symbol-at .ensures) in
+      no-call (r .here) e
 
   pub meets : {M : Type 1} → lts.Closed (calls t) (block-at t) reads.Post M
   meets = lts.spec (calls t) (block-at t) reads.Post symbol-at-requires is-symbol-requires rule-block-requires same-length returns returns-2

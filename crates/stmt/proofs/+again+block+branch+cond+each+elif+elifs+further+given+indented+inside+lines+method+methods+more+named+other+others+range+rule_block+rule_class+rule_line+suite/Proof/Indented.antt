@@ -1,5 +1,14 @@
 -- `stmt::indented`, a member of the cycle.
 -- Assumes nothing.
+use mathlib.Core.Path.{refl}
+use mathlib.Core.List.{[], _∷_}
+use Rattle.token.specs.Code as code
+use Rattle.leaves.proofs.Tests.{learnt}
+use Rattle.leaves.proofs.Tokens.{took}
+use Rattle.joint.proofs.Chain.{tok-then, tok-not, part-then, part-stop}
+use Rattle.joint.proofs.Loops.{ready-of}
+use Rattle.simple.proofs.Laws.{passed-start}
+use Rattle.stmt.proofs.Blocks.{modest-inner}
 use borrow.Author.Needs.{needs}
 use native.Mathlib.Omega.{arith}
 use Prim.Native.Nat.{ℕ}
@@ -16,40 +25,85 @@ calls t = (symbol-at-reads.Asked, symbol-at-reads.Learnt, is-symbol-reads.Asked,
 
 module _ (t : ℕ) where
   symbol-at-requires : lts.Need-symbol-at-requires (calls t) (indented-at t) reads.Post
-  symbol-at-requires c κs = ?
+  symbol-at-requires c κs =
+      let at-start = c .before .before .before .before in
+      (at-start .pre .1 .tokens, at-start .pre .1 .here)
 
   is-symbol-requires : lts.Need-is-symbol-requires (calls t) (indented-at t) reads.Post
-  is-symbol-requires c κs = ?
+  is-symbol-requires c κs = search needs
 
   add-t : lts.Need-add-t (calls t) (indented-at t) reads.Post
-  add-t c = ?
+  add-t c = omega arith
 
   inside-requires : lts.Need-inside-requires (calls t) (indented-at t) reads.Post
-  inside-requires c κs = ?
+  inside-requires c κs =
+      let at-if1 = c .before .before in
+      let at-is-symbol = at-if1 .before in
+      let at-symbol-at = at-is-symbol .before in
+      let at-start = at-symbol-at .before .before .before .before .before in
+      let r = at-start .pre .1 in
+      let e = learnt (code.Indent ∷ []) (at-if1 .if1 .taken) (at-is-symbol .is-symbol .ensures) (at-symbol-at .symbol-at .ensures) in
+      let l = took (code.Indent ∷ []) refl refl (r .tokens) (r .here) e in
+      (omega arith, ready-of (r .tokens) (omega arith))
 
   enum-known-body : lts.Need-enum-known-body (calls t) (indented-at t) reads.Post
-  enum-known-body c = ?
+  enum-known-body c = search needs
 
   dedent-requires : lts.Need-dedent-requires (calls t) (indented-at t) reads.Post
-  dedent-requires c κs = ?
+  dedent-requires c κs =
+      let at-body = c .before in
+      let at-inside = at-body .before .before .before .before in
+      let at-if1 = at-inside .before .before .before in
+      let at-is-symbol = at-if1 .before in
+      let at-symbol-at = at-is-symbol .before in
+      let at-start = at-symbol-at .before .before .before .before .before in
+      let r = at-start .pre .1 in
+      let e = learnt (code.Indent ∷ []) (at-if1 .if1 .taken) (at-is-symbol .is-symbol .ensures) (at-symbol-at .symbol-at .ensures) in
+      let l = took (code.Indent ∷ []) refl refl (r .tokens) (r .here) e in
+      let g = passed-start _ _ (r .tokens) modest-inner (l .inside) (at-inside .inside .ensures) (at-body .body .given .1) in
+      (r .tokens, (g .here, g .used))
 
   enum-known-body-2 : lts.Need-enum-known-body-2 (calls t) (indented-at t) reads.Post
-  enum-known-body-2 c = ?
+  enum-known-body-2 c = search needs
 
   same-length : lts.Need-same-length (calls t) (indented-at t) reads.Post
-  same-length c = ?
+  same-length c = search needs
 
   returns : lts.Need-returns (calls t) (indented-at t) reads.Post
-  returns c = ?
+  returns c =
+      let at-body = c .before .before in
+      let at-inside = at-body .before .before .before .before in
+      let at-if1 = at-inside .before .before .before in
+      let at-is-symbol = at-if1 .before in
+      let at-symbol-at = at-is-symbol .before in
+      let at-start = at-symbol-at .before .before .before .before .before in
+      let r = at-start .pre .1 in
+      let e = learnt (code.Indent ∷ []) (at-if1 .if1 .taken) (at-is-symbol .is-symbol .ensures) (at-symbol-at .symbol-at .ensures) in
+      record { comes = λ vs. tok-then (r .here) e (part-then (at-inside .inside .ensures) (at-body .body .given .1) (c .dedent .ensures _ _ .comes vs)) }
 
   same-length-2 : lts.Need-same-length-2 (calls t) (indented-at t) reads.Post
-  same-length-2 c = ?
+  same-length-2 c = search needs
 
   returns-2 : lts.Need-returns-2 (calls t) (indented-at t) reads.Post
-  returns-2 c = ?
+  returns-2 c =
+      let at-body2 = c .before in
+      let at-inside = at-body2 .before .before .before .before in
+      let at-if1 = at-inside .before .before .before in
+      let at-is-symbol = at-if1 .before in
+      let at-symbol-at = at-is-symbol .before in
+      let at-start = at-symbol-at .before .before .before .before .before in
+      let r = at-start .pre .1 in
+      let e = learnt (code.Indent ∷ []) (at-if1 .if1 .taken) (at-is-symbol .is-symbol .ensures) (at-symbol-at .symbol-at .ensures) in
+      record { comes = λ vs. tok-then (r .here) e (part-stop _ (at-inside .inside .ensures) (at-body2 .body2 .given .1)) }
 
   returns-3 : lts.Need-returns-3 (calls t) (indented-at t) reads.Post
-  returns-3 c = ?
+  returns-3 c =
+      let at-is-symbol = c .before in
+      let at-symbol-at = at-is-symbol .before in
+      let at-start = at-symbol-at .before .before .before .before .before in
+      let r = at-start .pre .1 in
+      let e = learnt (code.Indent ∷ []) (c .if1 .left) (at-is-symbol .is-symbol .ensures) (at-symbol-at .symbol-at .ensures) in
+      record { comes = λ vs. tok-not (r .here) e }
 
   pub meets : {M : Type 1} → lts.Closed (calls t) (indented-at t) reads.Post M
   meets = lts.spec (calls t) (indented-at t) reads.Post symbol-at-requires is-symbol-requires add-t inside-requires enum-known-body dedent-requires enum-known-body-2 same-length returns same-length-2 returns-2 returns-3

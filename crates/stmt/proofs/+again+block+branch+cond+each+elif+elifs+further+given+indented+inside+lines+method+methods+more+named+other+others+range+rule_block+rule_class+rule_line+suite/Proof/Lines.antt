@@ -1,5 +1,16 @@
 -- `stmt::lines`, a member of the cycle.
 -- Assumes nothing.
+use mathlib.Core.Path.{refl}
+use mathlib.Core.List.{[], _∷_}
+use Rattle.token.specs.Code as code
+use Rattle.pyhyeon.specs.Tables.{first, firstLine, rank}
+use Rattle.leaves.specs.Contract.{a-growing}
+use Rattle.leaves.proofs.Tests.{learnt}
+use Rattle.leaves.proofs.Tokens.{before-eof}
+use Rattle.joint.proofs.Chain.{called, no-call, part-then, part-stop}
+use Rattle.joint.proofs.Loops.{ready-of}
+use Rattle.joint.proofs.Passing.{newlines-pass, run-text}
+use Rattle.simple.proofs.Laws.{came-rule, came-growing, pays-line}
 use borrow.Author.Needs.{needs}
 use native.Mathlib.Omega.{arith}
 use Prim.Native.Nat.{ℕ}
@@ -17,43 +28,123 @@ calls t = (symbol-at-reads.Asked, symbol-at-reads.Learnt, begins-line-reads.Aske
 
 module _ (t : ℕ) where
   symbol-at-requires : lts.Need-symbol-at-requires (calls t) (lines-at t) reads.Post
-  symbol-at-requires c κs = ?
+  symbol-at-requires c κs =
+      let at-start = c .before .before .before .before in
+      (at-start .pre .1 .tokens, at-start .pre .1 .here)
 
   begins-line-requires : lts.Need-begins-line-requires (calls t) (lines-at t) reads.Post
-  begins-line-requires c κs = ?
+  begins-line-requires c κs = search needs
 
   rule-line-requires : lts.Need-rule-line-requires (calls t) (lines-at t) reads.Post
-  rule-line-requires c κs = ?
+  unfolding first
+  rule-line-requires c κs =
+      let at-if1 = c .before in
+      let at-begins-line = at-if1 .before in
+      let at-symbol-at = at-begins-line .before in
+      let at-start = at-symbol-at .before .before .before .before .before in
+      let b = learnt firstLine (at-if1 .if1 .taken) (at-begins-line .begins-line .ensures) (at-symbol-at .symbol-at .ensures) in
+      (omega (arith, at-start .pre .0), (at-start .pre .1, record { seen = b }))
 
   enum-known-head : lts.Need-enum-known-head (calls t) (lines-at t) reads.Post
-  enum-known-head c = ?
+  enum-known-head c = search needs
 
   sub-k : lts.Need-sub-k (calls t) (lines-at t) reads.Post
-  sub-k c = ?
+  unfolding first rank
+  sub-k c =
+      let at-head = c .before .before in
+      let at-rule-line = at-head .before .before .before .before in
+      let at-if1 = at-rule-line .before .before in
+      let at-begins-line = at-if1 .before in
+      let at-symbol-at = at-begins-line .before in
+      let at-start = at-symbol-at .before .before .before .before .before in
+      let r = at-start .pre .1 in
+      let b = learnt firstLine (at-if1 .if1 .taken) (at-begins-line .begins-line .ensures) (at-symbol-at .symbol-at .ensures) in
+      let lt = before-eof firstLine refl (r .tokens) (r .here) b in
+      let g = came-rule _ _ (r .tokens) pays-line lt (at-rule-line .rule-line .ensures) (at-head .head .given .1) in
+      let d = came-growing g in
+      omega arith
 
   skip-newlines-requires : lts.Need-skip-newlines-requires (calls t) (lines-at t) reads.Post
-  skip-newlines-requires c κs = ?
+  unfolding first rank
+  skip-newlines-requires c κs =
+      let at-head = c .before .before .before in
+      let at-rule-line = at-head .before .before .before .before in
+      let at-if1 = at-rule-line .before .before in
+      let at-begins-line = at-if1 .before in
+      let at-symbol-at = at-begins-line .before in
+      let at-start = at-symbol-at .before .before .before .before .before in
+      let r = at-start .pre .1 in
+      let b = learnt firstLine (at-if1 .if1 .taken) (at-begins-line .begins-line .ensures) (at-symbol-at .symbol-at .ensures) in
+      let lt = before-eof firstLine refl (r .tokens) (r .here) b in
+      let g = came-rule _ _ (r .tokens) pays-line lt (at-rule-line .rule-line .ensures) (at-head .head .given .1) in
+      (r .tokens, g .here)
 
   more-requires : lts.Need-more-requires (calls t) (lines-at t) reads.Post
-  more-requires c κs = ?
+  unfolding first rank
+  more-requires c κs =
+      let at-skip-newlines = c .before in
+      let at-head = at-skip-newlines .before .before .before .before in
+      let at-rule-line = at-head .before .before .before .before in
+      let at-if1 = at-rule-line .before .before in
+      let at-begins-line = at-if1 .before in
+      let at-symbol-at = at-begins-line .before in
+      let at-start = at-symbol-at .before .before .before .before .before in
+      let r = at-start .pre .1 in
+      let b = learnt firstLine (at-if1 .if1 .taken) (at-begins-line .begins-line .ensures) (at-symbol-at .symbol-at .ensures) in
+      let lt = before-eof firstLine refl (r .tokens) (r .here) b in
+      let g = came-rule _ _ (r .tokens) pays-line lt (at-rule-line .rule-line .ensures) (at-head .head .given .1) in
+      let d = came-growing g in
+      let n = at-skip-newlines .skip-newlines .ensures in
+      let x = run-text (code.Newline ∷ []) refl refl (r .tokens) n in
+      let k = at-rule-line .rule-line .kept .1 .1 .0 in
+      (omega (arith, at-start .pre .0, g .on, n .order, n .inside, r .tokens .whole), (ready-of (r .tokens) (omega (arith, r .room, r .nodes, r .opened, k, g .nodes, g .opened, g .used, x, n .order, n .inside)), omega (arith, d)))
 
   enum-known-head-2 : lts.Need-enum-known-head-2 (calls t) (lines-at t) reads.Post
-  enum-known-head-2 c = ?
+  enum-known-head-2 c = search needs
 
   same-length : lts.Need-same-length (calls t) (lines-at t) reads.Post
-  same-length c = ?
+  same-length c = search needs
 
   returns : lts.Need-returns (calls t) (lines-at t) reads.Post
-  returns c = ?
+  unfolding first
+  returns c =
+      let at-more = c .before .before in
+      let at-skip-newlines = at-more .before .before in
+      let at-head = at-skip-newlines .before .before .before .before in
+      let at-rule-line = at-head .before .before .before .before in
+      let at-if1 = at-rule-line .before .before in
+      let at-begins-line = at-if1 .before in
+      let at-symbol-at = at-begins-line .before in
+      let at-start = at-symbol-at .before .before .before .before .before in
+      let r = at-start .pre .1 in
+      let b = learnt firstLine (at-if1 .if1 .taken) (at-begins-line .begins-line .ensures) (at-symbol-at .symbol-at .ensures) in
+      record { comes = λ vs. part-then (called (r .here) b (at-rule-line .rule-line .ensures)) (at-head .head .given .1) (newlines-pass (at-skip-newlines .skip-newlines .ensures) (at-more .more .ensures .comes vs)) }
 
   same-length-2 : lts.Need-same-length-2 (calls t) (lines-at t) reads.Post
-  same-length-2 c = ?
+  same-length-2 c = search needs
 
   returns-2 : lts.Need-returns-2 (calls t) (lines-at t) reads.Post
-  returns-2 c = ?
+  unfolding first
+  returns-2 c =
+      let at-head2 = c .before in
+      let at-rule-line = at-head2 .before .before .before .before in
+      let at-if1 = at-rule-line .before .before in
+      let at-begins-line = at-if1 .before in
+      let at-symbol-at = at-begins-line .before in
+      let at-start = at-symbol-at .before .before .before .before .before in
+      let r = at-start .pre .1 in
+      let b = learnt firstLine (at-if1 .if1 .taken) (at-begins-line .begins-line .ensures) (at-symbol-at .symbol-at .ensures) in
+      record { comes = λ vs. part-stop _ (called (r .here) b (at-rule-line .rule-line .ensures)) (at-head2 .head2 .given .1) }
 
   returns-3 : lts.Need-returns-3 (calls t) (lines-at t) reads.Post
-  returns-3 c = ?
+  unfolding first
+  returns-3 c =
+      let at-begins-line = c .before in
+      let at-symbol-at = at-begins-line .before in
+      let at-start = at-symbol-at .before .before .before .before .before in
+      let r = at-start .pre .1 in
+      let b = learnt firstLine (c .if1 .left) (at-begins-line .begins-line .ensures) (at-symbol-at .symbol-at .ensures) in
+      record { comes = λ vs. part-stop {mid = a-growing} _ (no-call (r .here) b) refl }
 
   pub meets : {M : Type 1} → lts.Closed (calls t) (lines-at t) reads.Post M
   meets = lts.spec (calls t) (lines-at t) reads.Post symbol-at-requires begins-line-requires rule-line-requires enum-known-head sub-k skip-newlines-requires more-requires enum-known-head-2 same-length returns same-length-2 returns-2 returns-3

@@ -1,5 +1,16 @@
 -- `stmt::rule_block`, a member of the cycle.
 -- Assumes nothing.
+use mathlib.Core.Path.{refl}
+use mathlib.Core.List.{[], _∷_}
+use Rattle.grammar.specs.Descent.{null, begins}
+use Rattle.token.specs.Code as code
+use Rattle.pyhyeon.specs.Tables.{joined, first, opens}
+use Rattle.leaves.proofs.Tests.{learnt}
+use Rattle.leaves.proofs.Tokens.{took}
+use Rattle.joint.proofs.Chain.{tok-then, or-first, or-next, open-deep, open-room}
+use Rattle.joint.proofs.Loops.{ready-of}
+use Rattle.joint.proofs.Passing.{newlines-pass, run-text}
+use Rattle.stmt.proofs.Blocks.{list-through}
 use borrow.Author.Needs.{needs}
 use native.Mathlib.Omega.{arith}
 use Prim.Native.Nat.{ℕ}
@@ -17,46 +28,102 @@ calls t = (symbol-at-reads.Asked, symbol-at-reads.Learnt, is-symbol-reads.Asked,
 
 module _ (t : ℕ) where
   sub-room : lts.Need-sub-room (calls t) (rule-block-at t) reads.Post
-  sub-room c = ?
+  sub-room c = search needs
 
   add-opened : lts.Need-add-opened (calls t) (rule-block-at t) reads.Post
-  add-opened c = ?
+  add-opened c = omega arith
 
   add-t : lts.Need-add-t (calls t) (rule-block-at t) reads.Post
-  add-t c = ?
+  add-t c = omega arith
 
   symbol-at-requires : lts.Need-symbol-at-requires (calls t) (rule-block-at t) reads.Post
-  symbol-at-requires c κs = ?
+  unfolding first
+  symbol-at-requires c κs =
+      let at-start = c .before .before .before .before .before .before in
+      let r = at-start .pre .1 .0 in
+      let l = took (code.Colon ∷ []) refl refl (r .tokens) (r .here) (at-start .pre .1 .1 .seen) in
+      (r .tokens, l .inside)
 
   is-symbol-requires : lts.Need-is-symbol-requires (calls t) (rule-block-at t) reads.Post
-  is-symbol-requires c κs = ?
+  is-symbol-requires c κs = search needs
 
   add-u : lts.Need-add-u (calls t) (rule-block-at t) reads.Post
-  add-u c = ?
+  add-u c = omega arith
 
   skip-newlines-requires : lts.Need-skip-newlines-requires (calls t) (rule-block-at t) reads.Post
-  skip-newlines-requires c κs = ?
+  unfolding first
+  skip-newlines-requires c κs =
+      let at-is-symbol = c .before in
+      let at-symbol-at = at-is-symbol .before in
+      let at-start = at-symbol-at .before .before .before .before .before .before .before in
+      let r = at-start .pre .1 .0 in
+      let l = took (code.Colon ∷ []) refl refl (r .tokens) (r .here) (at-start .pre .1 .1 .seen) in
+      let e = learnt (code.Newline ∷ []) (c .if2 .taken) (at-is-symbol .is-symbol .ensures) (at-symbol-at .symbol-at .ensures) in
+      let m = took (code.Newline ∷ []) refl refl (r .tokens) (l .inside) e in
+      (r .tokens, m .inside)
 
   indented-requires : lts.Need-indented-requires (calls t) (rule-block-at t) reads.Post
-  indented-requires c κs = ?
+  unfolding first
+  indented-requires c κs =
+      let at-skip-newlines = c .before in
+      let at-if2 = at-skip-newlines .before in
+      let at-is-symbol = at-if2 .before in
+      let at-symbol-at = at-is-symbol .before in
+      let at-start = at-symbol-at .before .before .before .before .before .before .before in
+      let r = at-start .pre .1 .0 in
+      let l = took (code.Colon ∷ []) refl refl (r .tokens) (r .here) (at-start .pre .1 .1 .seen) in
+      let e = learnt (code.Newline ∷ []) (at-if2 .if2 .taken) (at-is-symbol .is-symbol .ensures) (at-symbol-at .symbol-at .ensures) in
+      let m = took (code.Newline ∷ []) refl refl (r .tokens) (l .inside) e in
+      let g = at-skip-newlines .skip-newlines .ensures in
+      let x = run-text (code.Newline ∷ []) refl refl (r .tokens) g in
+      (omega (arith, at-start .pre .0, g .order, g .inside, r .tokens .whole), ready-of (r .tokens) (omega (arith, r .room, r .nodes, r .opened, r .used, l .text, m .text, x, g .order, g .inside)))
 
   simples-requires : lts.Need-simples-requires (calls t) (rule-block-at t) reads.Post
-  simples-requires c κs = ?
+  unfolding first
+  simples-requires c κs =
+      let at-start = c .before .before .before .before .before .before .before .before .before .before in
+      let r = at-start .pre .1 .0 in
+      let l = took (code.Colon ∷ []) refl refl (r .tokens) (r .here) (at-start .pre .1 .1 .seen) in
+      ready-of (r .tokens) (omega arith)
 
   returns : lts.Need-returns (calls t) (rule-block-at t) reads.Post
-  returns c = ?
+  unfolding opens
+  returns c = open-deep refl (c .if1 .taken)
 
   same-length : lts.Need-same-length (calls t) (rule-block-at t) reads.Post
-  same-length c = ?
+  same-length c = search needs
 
   returns-2 : lts.Need-returns-2 (calls t) (rule-block-at t) reads.Post
-  returns-2 c = ?
+  unfolding joined first begins null opens
+  returns-2 c =
+      let at-indented = c .before .before in
+      let at-skip-newlines = at-indented .before .before in
+      let at-if2 = at-skip-newlines .before in
+      let at-is-symbol = at-if2 .before in
+      let at-symbol-at = at-is-symbol .before in
+      let at-if1 = at-symbol-at .before .before .before in
+      let at-start = at-if1 .before .before .before .before in
+      let r = at-start .pre .1 .0 in
+      let l = took (code.Colon ∷ []) refl refl (r .tokens) (r .here) (at-start .pre .1 .1 .seen) in
+      let e = learnt (code.Newline ∷ []) (at-if2 .if2 .taken) (at-is-symbol .is-symbol .ensures) (at-symbol-at .symbol-at .ensures) in
+      open-room refl (at-if1 .if1 .left) (λ vs. tok-then (r .here) (at-start .pre .1 .1 .seen) (or-first (l .inside) e (tok-then (l .inside) e (newlines-pass (at-skip-newlines .skip-newlines .ensures) (at-indented .indented .ensures .comes vs)))))
 
   same-length-2 : lts.Need-same-length-2 (calls t) (rule-block-at t) reads.Post
-  same-length-2 c = ?
+  same-length-2 c = search needs
 
   returns-3 : lts.Need-returns-3 (calls t) (rule-block-at t) reads.Post
-  returns-3 c = ?
+  unfolding joined first begins null opens
+  returns-3 c =
+      let at-simples = c .before .before in
+      let at-if2 = at-simples .before .before in
+      let at-is-symbol = at-if2 .before in
+      let at-symbol-at = at-is-symbol .before in
+      let at-if1 = at-symbol-at .before .before .before in
+      let at-start = at-if1 .before .before .before .before in
+      let r = at-start .pre .1 .0 in
+      let l = took (code.Colon ∷ []) refl refl (r .tokens) (r .here) (at-start .pre .1 .1 .seen) in
+      let e = learnt (code.Newline ∷ []) (at-if2 .if2 .left) (at-is-symbol .is-symbol .ensures) (at-symbol-at .symbol-at .ensures) in
+      open-room refl (at-if1 .if1 .left) (λ vs. tok-then (r .here) (at-start .pre .1 .1 .seen) (or-next (l .inside) e (list-through _ (at-simples .simples .ensures) vs)))
 
   pub meets : {M : Type 1} → lts.Closed (calls t) (rule-block-at t) reads.Post M
   meets = lts.spec (calls t) (rule-block-at t) reads.Post sub-room add-opened add-t symbol-at-requires is-symbol-requires add-u skip-newlines-requires indented-requires simples-requires returns same-length returns-2 same-length-2 returns-3
