@@ -1,5 +1,18 @@
 -- `stmt::given`, a member of the cycle.
 -- Assumes nothing.
+use mathlib.Core.Path.{refl}
+use mathlib.Core.List.{[], _∷_}
+use Rattle.token.specs.Code as code
+use Rattle.pyhyeon.specs.Tables.{first, rank}
+use Rattle.leaves.proofs.Tests.{learnt}
+use Rattle.leaves.proofs.Tokens.{took}
+use Rattle.joint.proofs.Bounds.{after-list}
+use Rattle.joint.proofs.Chain.{tok-then, tok-not, part-then, part-stop}
+use Rattle.joint.proofs.Ends.{act-wrote}
+use Rattle.joint.proofs.Loops.{ready-of}
+use Rattle.simple.proofs.Laws.{came-call, pays-block}
+use Rattle.simple.proofs.Newest.{newest-wrote, newest-refused}
+use Rattle.expr.proofs.Low.{modest-parameters}
 use borrow.Author.Needs.{needs}
 use native.Mathlib.Omega.{arith}
 use Prim.Native.Nat.{ℕ}
@@ -17,46 +30,127 @@ calls t = (names-reads.Asked, names-reads.Learnt, symbol-at-reads.Asked, symbol-
 
 module _ (t : ℕ) where
   names-requires : lts.Need-names-requires (calls t) (given-at t) reads.Post
-  names-requires c κs = ?
+  names-requires c κs =
+      let at-start = c .before .before .before .before in
+      at-start .pre .1 .0
 
   symbol-at-requires : lts.Need-symbol-at-requires (calls t) (given-at t) reads.Post
-  symbol-at-requires c κs = ?
+  symbol-at-requires c κs =
+      let at-names = c .before .before .before .before .before in
+      let at-start = at-names .before .before .before .before .before in
+      let r = at-start .pre .1 .0 in
+      let g = after-list _ _ (r .tokens) modest-parameters (r .here) (at-names .names .ensures 0) refl in
+      (r .tokens, g .here)
 
   is-symbol-requires : lts.Need-is-symbol-requires (calls t) (given-at t) reads.Post
-  is-symbol-requires c κs = ?
+  is-symbol-requires c κs = search needs
 
   add-t : lts.Need-add-t (calls t) (given-at t) reads.Post
-  add-t c = ?
+  add-t c =
+      let at-names = c .before .before .before .before .before .before .before .before .before in
+      let at-start = at-names .before .before .before .before .before in
+      let r = at-start .pre .1 .0 in
+      let g = after-list _ _ (r .tokens) modest-parameters (r .here) (at-names .names .ensures 0) refl in
+      omega arith
 
   block-requires : lts.Need-block-requires (calls t) (given-at t) reads.Post
-  block-requires c κs = ?
+  block-requires c κs =
+      let at-if1 = c .before .before in
+      let at-is-symbol = at-if1 .before in
+      let at-symbol-at = at-is-symbol .before in
+      let at-names = at-symbol-at .before .before .before .before .before .before in
+      let at-start = at-names .before .before .before .before .before in
+      let r = at-start .pre .1 .0 in
+      let g = after-list _ _ (r .tokens) modest-parameters (r .here) (at-names .names .ensures 0) refl in
+      let e = learnt (code.RParen ∷ []) (at-if1 .if1 .taken) (at-is-symbol .is-symbol .ensures) (at-symbol-at .symbol-at .ensures) in
+      let l = took (code.RParen ∷ []) refl refl (r .tokens) (g .here) e in
+      (omega arith, ready-of (r .tokens) (omega arith))
 
   enum-known-body : lts.Need-enum-known-body (calls t) (given-at t) reads.Post
-  enum-known-body c = ?
+  enum-known-body c = search needs
 
   put-def-requires : lts.Need-put-def-requires (calls t) (given-at t) reads.Post
-  put-def-requires c κs = ?
+  unfolding first rank
+  put-def-requires c κs =
+      let at-body = c .before .before in
+      let at-block = at-body .before .before .before .before in
+      let at-if1 = at-block .before .before .before in
+      let at-is-symbol = at-if1 .before in
+      let at-symbol-at = at-is-symbol .before in
+      let at-names = at-symbol-at .before .before .before .before .before .before in
+      let at-start = at-names .before .before .before .before .before in
+      let p = at-start .pre .1 .1 in
+      let r = at-start .pre .1 .0 in
+      let g = after-list _ _ (r .tokens) modest-parameters (r .here) (at-names .names .ensures 0) refl in
+      let e = learnt (code.RParen ∷ []) (at-if1 .if1 .taken) (at-is-symbol .is-symbol .ensures) (at-symbol-at .symbol-at .ensures) in
+      let l = took (code.RParen ∷ []) refl refl (r .tokens) (g .here) e in
+      let b = came-call _ _ (r .tokens) pays-block refl (l .inside) (at-block .block .ensures) (at-body .body .given .1) in
+      let k₁ = at-names .names .kept .1 .1 .0 in
+      let k₂ = at-block .block .kept .1 .1 .0 in
+      omega arith
 
   enum-known-body-2 : lts.Need-enum-known-body-2 (calls t) (given-at t) reads.Post
-  enum-known-body-2 c = ?
+  enum-known-body-2 c = search needs
 
   same-length : lts.Need-same-length (calls t) (given-at t) reads.Post
-  same-length c = ?
+  same-length c =
+      let at-put-def = c .before .before .before .before in
+      let at-block = at-put-def .before .before .before .before .before .before .before in
+      let at-names = at-block .before .before .before .before .before .before .before .before .before .before .before in
+      let k₁ = at-names .names .kept .1 .1 .0 in
+      let k₂ = at-block .block .kept .1 .1 .0 in
+      let k₃ = at-put-def .put-def .kept .1 .0 in
+      omega arith
 
   returns : lts.Need-returns (calls t) (given-at t) reads.Post
-  returns c = ?
+  unfolding first rank
+  returns c =
+      let at-put-def = c .before .before .before .before in
+      let at-body = at-put-def .before .before .before in
+      let at-block = at-body .before .before .before .before in
+      let at-if1 = at-block .before .before .before in
+      let at-is-symbol = at-if1 .before in
+      let at-symbol-at = at-is-symbol .before in
+      let at-names = at-symbol-at .before .before .before .before .before .before in
+      let at-start = at-names .before .before .before .before .before in
+      let r = at-start .pre .1 .0 in
+      let g = after-list _ _ (r .tokens) modest-parameters (r .here) (at-names .names .ensures 0) refl in
+      let e = learnt (code.RParen ∷ []) (at-if1 .if1 .taken) (at-is-symbol .is-symbol .ensures) (at-symbol-at .symbol-at .ensures) in
+      let l = took (code.RParen ∷ []) refl refl (r .tokens) (g .here) e in
+      let b = came-call _ _ (r .tokens) pays-block refl (l .inside) (at-block .block .ensures) (at-body .body .given .1) in
+      let w = at-put-def .put-def .ensures _ in
+      (record { comes = λ vs. part-then (at-names .names .ensures _) refl (tok-then (g .here) e (part-then (at-block .block .ensures) (at-body .body .given .1) (act-wrote (b .used) w))) }, newest-wrote w)
 
   same-length-2 : lts.Need-same-length-2 (calls t) (given-at t) reads.Post
-  same-length-2 c = ?
+  same-length-2 c = search needs
 
   returns-2 : lts.Need-returns-2 (calls t) (given-at t) reads.Post
-  returns-2 c = ?
+  returns-2 c =
+      let at-body2 = c .before in
+      let at-block = at-body2 .before .before .before .before in
+      let at-if1 = at-block .before .before .before in
+      let at-is-symbol = at-if1 .before in
+      let at-symbol-at = at-is-symbol .before in
+      let at-names = at-symbol-at .before .before .before .before .before .before in
+      let at-start = at-names .before .before .before .before .before in
+      let r = at-start .pre .1 .0 in
+      let g = after-list _ _ (r .tokens) modest-parameters (r .here) (at-names .names .ensures 0) refl in
+      let e = learnt (code.RParen ∷ []) (at-if1 .if1 .taken) (at-is-symbol .is-symbol .ensures) (at-symbol-at .symbol-at .ensures) in
+      (record { comes = λ vs. part-then (at-names .names .ensures _) refl (tok-then (g .here) e (part-stop _ (at-block .block .ensures) (at-body2 .body2 .given .1))) }, newest-refused)
 
   same-length-3 : lts.Need-same-length-3 (calls t) (given-at t) reads.Post
-  same-length-3 c = ?
+  same-length-3 c = search needs
 
   returns-3 : lts.Need-returns-3 (calls t) (given-at t) reads.Post
-  returns-3 c = ?
+  returns-3 c =
+      let at-is-symbol = c .before in
+      let at-symbol-at = at-is-symbol .before in
+      let at-names = at-symbol-at .before .before .before .before .before .before in
+      let at-start = at-names .before .before .before .before .before in
+      let r = at-start .pre .1 .0 in
+      let g = after-list _ _ (r .tokens) modest-parameters (r .here) (at-names .names .ensures 0) refl in
+      let e = learnt (code.RParen ∷ []) (c .if1 .left) (at-is-symbol .is-symbol .ensures) (at-symbol-at .symbol-at .ensures) in
+      (record { comes = λ vs. part-then (at-names .names .ensures _) refl (tok-not (g .here) e) }, newest-refused)
 
   pub meets : {M : Type 1} → lts.Closed (calls t) (given-at t) reads.Post M
   meets = lts.spec (calls t) (given-at t) reads.Post names-requires symbol-at-requires is-symbol-requires add-t block-requires enum-known-body put-def-requires enum-known-body-2 same-length returns same-length-2 returns-2 same-length-3 returns-3

@@ -1,5 +1,13 @@
 -- `stmt::method`, a member of the cycle.
 -- Assumes nothing.
+use mathlib.Core.Path.{refl}
+use mathlib.Core.List.{[], _∷_}
+use Rattle.token.specs.Code as code
+use Rattle.leaves.proofs.Tests.{learnt}
+use Rattle.leaves.proofs.Tokens.{took}
+use Rattle.joint.proofs.Chain.{tok-not}
+use Rattle.joint.proofs.Ends.{tok-mark}
+use Rattle.joint.proofs.Loops.{ready-of}
 use borrow.Author.Needs.{needs}
 use native.Mathlib.Omega.{arith}
 use Prim.Native.Nat.{ℕ}
@@ -15,25 +23,50 @@ calls t = (symbol-at-reads.Asked, symbol-at-reads.Learnt, is-symbol-reads.Asked,
 
 module _ (t : ℕ) where
   symbol-at-requires : lts.Need-symbol-at-requires (calls t) (method-at t) reads.Post
-  symbol-at-requires c κs = ?
+  symbol-at-requires c κs =
+      let at-start = c .before .before .before .before in
+      let r = at-start .pre .1 in
+      (r .tokens, r .here)
 
   is-symbol-requires : lts.Need-is-symbol-requires (calls t) (method-at t) reads.Post
-  is-symbol-requires c κs = ?
+  is-symbol-requires c κs = search needs
 
   add-t : lts.Need-add-t (calls t) (method-at t) reads.Post
-  add-t c = ?
+  add-t c = omega arith
 
   named-requires : lts.Need-named-requires (calls t) (method-at t) reads.Post
-  named-requires c κs = ?
+  named-requires c κs =
+      let at-if1 = c .before .before in
+      let at-is-symbol = at-if1 .before in
+      let at-symbol-at = at-is-symbol .before in
+      let at-start = at-symbol-at .before .before .before .before .before in
+      let r = at-start .pre .1 in
+      let e = learnt (code.Def ∷ []) (at-if1 .if1 .taken) (at-is-symbol .is-symbol .ensures) (at-symbol-at .symbol-at .ensures) in
+      let l = took (code.Def ∷ []) refl refl (r .tokens) (r .here) e in
+      (omega arith, (ready-of (r .tokens) (omega arith), omega arith))
 
   same-length : lts.Need-same-length (calls t) (method-at t) reads.Post
-  same-length c = ?
+  same-length c = search needs
 
   returns : lts.Need-returns (calls t) (method-at t) reads.Post
-  returns c = ?
+  returns c =
+      let at-named = c .before .before in
+      let at-if1 = at-named .before .before .before in
+      let at-is-symbol = at-if1 .before in
+      let at-symbol-at = at-is-symbol .before in
+      let at-start = at-symbol-at .before .before .before .before .before in
+      let r = at-start .pre .1 in
+      let e = learnt (code.Def ∷ []) (at-if1 .if1 .taken) (at-is-symbol .is-symbol .ensures) (at-symbol-at .symbol-at .ensures) in
+      record { comes = λ vs. tok-mark (r .here) e (at-named .named .ensures .0 .comes vs) }
 
   returns-2 : lts.Need-returns-2 (calls t) (method-at t) reads.Post
-  returns-2 c = ?
+  returns-2 c =
+      let at-is-symbol = c .before in
+      let at-symbol-at = at-is-symbol .before in
+      let at-start = at-symbol-at .before .before .before .before .before in
+      let r = at-start .pre .1 in
+      let e = learnt (code.Def ∷ []) (c .if1 .left) (at-is-symbol .is-symbol .ensures) (at-symbol-at .symbol-at .ensures) in
+      record { comes = λ vs. tok-not (r .here) e }
 
   pub meets : {M : Type 1} → lts.Closed (calls t) (method-at t) reads.Post M
   meets = lts.spec (calls t) (method-at t) reads.Post symbol-at-requires is-symbol-requires add-t named-requires same-length returns returns-2

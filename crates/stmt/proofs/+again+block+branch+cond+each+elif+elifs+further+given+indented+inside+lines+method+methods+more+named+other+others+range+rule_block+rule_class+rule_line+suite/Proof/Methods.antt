@@ -1,5 +1,16 @@
 -- `stmt::methods`, a member of the cycle.
 -- Assumes nothing.
+use mathlib.Core.Path.{refl}
+use mathlib.Core.List.{[], _∷_}
+use Rattle.token.specs.Code as code
+use Rattle.leaves.proofs.Tests.{learnt}
+use Rattle.leaves.proofs.Tokens.{took}
+use Rattle.joint.proofs.Chain.{tok-then, tok-not, part-then, part-stop}
+use Rattle.joint.proofs.Ends.{one-then}
+use Rattle.joint.proofs.Loops.{ready-of}
+use Rattle.simple.proofs.Laws.{passed-start, passed-node}
+use Rattle.simple.proofs.Newest.{newest-refused}
+use Rattle.stmt.proofs.Classes.{modest-method}
 use borrow.Author.Needs.{needs}
 use native.Mathlib.Omega.{arith}
 use Prim.Native.Nat.{ℕ}
@@ -16,40 +27,89 @@ calls t = (symbol-at-reads.Asked, symbol-at-reads.Learnt, is-symbol-reads.Asked,
 
 module _ (t : ℕ) where
   symbol-at-requires : lts.Need-symbol-at-requires (calls t) (methods-at t) reads.Post
-  symbol-at-requires c κs = ?
+  symbol-at-requires c κs =
+      let at-start = c .before .before .before .before in
+      let r = at-start .pre .1 .0 in
+      (r .tokens, r .here)
 
   is-symbol-requires : lts.Need-is-symbol-requires (calls t) (methods-at t) reads.Post
-  is-symbol-requires c κs = ?
+  is-symbol-requires c κs = search needs
 
   add-t : lts.Need-add-t (calls t) (methods-at t) reads.Post
-  add-t c = ?
+  add-t c = omega arith
 
   method-requires : lts.Need-method-requires (calls t) (methods-at t) reads.Post
-  method-requires c κs = ?
+  method-requires c κs =
+      let at-if1 = c .before .before in
+      let at-is-symbol = at-if1 .before in
+      let at-symbol-at = at-is-symbol .before in
+      let at-start = at-symbol-at .before .before .before .before .before in
+      let r = at-start .pre .1 .0 in
+      let e = learnt (code.Indent ∷ []) (at-if1 .if1 .taken) (at-is-symbol .is-symbol .ensures) (at-symbol-at .symbol-at .ensures) in
+      let l = took (code.Indent ∷ []) refl refl (r .tokens) (r .here) e in
+      (omega arith, ready-of (r .tokens) (omega arith))
 
   enum-known-one : lts.Need-enum-known-one (calls t) (methods-at t) reads.Post
-  enum-known-one c = ?
+  enum-known-one c = search needs
 
   others-requires : lts.Need-others-requires (calls t) (methods-at t) reads.Post
-  others-requires c κs = ?
+  others-requires c κs =
+      let at-one = c .before .before in
+      let at-method = at-one .before .before .before .before in
+      let at-if1 = at-method .before .before .before in
+      let at-is-symbol = at-if1 .before in
+      let at-symbol-at = at-is-symbol .before in
+      let at-start = at-symbol-at .before .before .before .before .before in
+      let p = at-start .pre .1 .1 in
+      let r = at-start .pre .1 .0 in
+      let e = learnt (code.Indent ∷ []) (at-if1 .if1 .taken) (at-is-symbol .is-symbol .ensures) (at-symbol-at .symbol-at .ensures) in
+      let l = took (code.Indent ∷ []) refl refl (r .tokens) (r .here) e in
+      let g = passed-start _ _ (r .tokens) modest-method (l .inside) (at-method .method .ensures) (at-one .one .given .1) in
+      let k = at-method .method .kept .1 .1 .0 in
+      (omega arith, (ready-of (r .tokens) (omega arith), (omega arith, omega arith, passed-node g)))
 
   enum-known-one-2 : lts.Need-enum-known-one-2 (calls t) (methods-at t) reads.Post
-  enum-known-one-2 c = ?
+  enum-known-one-2 c = search needs
 
   same-length : lts.Need-same-length (calls t) (methods-at t) reads.Post
-  same-length c = ?
+  same-length c = search needs
 
   returns : lts.Need-returns (calls t) (methods-at t) reads.Post
-  returns c = ?
+  returns c =
+      let at-others = c .before .before in
+      let at-one = at-others .before .before .before in
+      let at-method = at-one .before .before .before .before in
+      let at-if1 = at-method .before .before .before in
+      let at-is-symbol = at-if1 .before in
+      let at-symbol-at = at-is-symbol .before in
+      let at-start = at-symbol-at .before .before .before .before .before in
+      let r = at-start .pre .1 .0 in
+      let e = learnt (code.Indent ∷ []) (at-if1 .if1 .taken) (at-is-symbol .is-symbol .ensures) (at-symbol-at .symbol-at .ensures) in
+      (record { comes = λ vs. tok-then (r .here) e (part-then (at-method .method .ensures) (at-one .one .given .1) (one-then (at-others .others .ensures .0 .comes vs))) }, at-others .others .ensures .1)
 
   same-length-2 : lts.Need-same-length-2 (calls t) (methods-at t) reads.Post
-  same-length-2 c = ?
+  same-length-2 c = search needs
 
   returns-2 : lts.Need-returns-2 (calls t) (methods-at t) reads.Post
-  returns-2 c = ?
+  returns-2 c =
+      let at-one2 = c .before in
+      let at-method = at-one2 .before .before .before .before in
+      let at-if1 = at-method .before .before .before in
+      let at-is-symbol = at-if1 .before in
+      let at-symbol-at = at-is-symbol .before in
+      let at-start = at-symbol-at .before .before .before .before .before in
+      let r = at-start .pre .1 .0 in
+      let e = learnt (code.Indent ∷ []) (at-if1 .if1 .taken) (at-is-symbol .is-symbol .ensures) (at-symbol-at .symbol-at .ensures) in
+      (record { comes = λ vs. tok-then (r .here) e (part-stop _ (at-method .method .ensures) (at-one2 .one2 .given .1)) }, newest-refused)
 
   returns-3 : lts.Need-returns-3 (calls t) (methods-at t) reads.Post
-  returns-3 c = ?
+  returns-3 c =
+      let at-is-symbol = c .before in
+      let at-symbol-at = at-is-symbol .before in
+      let at-start = at-symbol-at .before .before .before .before .before in
+      let r = at-start .pre .1 .0 in
+      let e = learnt (code.Indent ∷ []) (c .if1 .left) (at-is-symbol .is-symbol .ensures) (at-symbol-at .symbol-at .ensures) in
+      (record { comes = λ vs. tok-not (r .here) e }, newest-refused)
 
   pub meets : {M : Type 1} → lts.Closed (calls t) (methods-at t) reads.Post M
   meets = lts.spec (calls t) (methods-at t) reads.Post symbol-at-requires is-symbol-requires add-t method-requires enum-known-one others-requires enum-known-one-2 same-length returns same-length-2 returns-2 returns-3
