@@ -44,7 +44,7 @@ pub fn rule_simple(src: &[u8], toks: &[u32], tree: &mut [u32], left: u32, s: Sta
                 opened: opened,
                 used: s.used,
             };
-            target(src, toks, tree, left, up)
+            assignment(src, toks, tree, left, up)
         }
     }
 }
@@ -88,7 +88,7 @@ fn returned(
 }
 
 // A target and its value, or an expression alone.
-fn target(src: &[u8], toks: &[u32], tree: &mut [u32], left: u32, s: State) -> Parsed
+fn assignment(src: &[u8], toks: &[u32], tree: &mut [u32], left: u32, s: State) -> Parsed
     requires { ⌜ Ready (now src) (now toks) (now tree) s 3 ⌝ }
     ensures { λ r. ⌜ Parts (now (src .entry)) (now (toks .entry)) left targetOn [] a-node s (now (tree .entry)) r (now (tree .exit)) ⌝ }
     ensures { λ r. ⌜ Newest r ⌝ }

@@ -73,8 +73,8 @@ word-requires-3 c κs =
     let l = took (code.Pass ∷ []) refl refl (r .tokens) (r .here) e in
     omega arith
 
-target-requires : tie.Need-target-requires
-target-requires c κs =
+assignment-requires : tie.Need-assignment-requires
+assignment-requires c κs =
     let at-start = c .before .before .before .before .before .before .before .before .before in
     let r = at-start .pre .0 in
     ready-of (r .tokens) (omega arith)
@@ -156,15 +156,15 @@ same-length-5 c = search needs
 returns-5 : tie.Need-returns-5
 unfolding joined plain first begins null opens
 returns-5 c =
-    let at-target = c .before .before in
-    let at-match = at-target .before .before in
+    let at-assignment = c .before .before in
+    let at-match = at-assignment .before .before in
     let at-symbol-at = at-match .before in
     let at-start = at-symbol-at .before .before .before .before .before .before .before in
     let h = at-start .pre .0 .here in
     let x = at-symbol-at .symbol-at .ensures in
     let q = at-match .match .rest in
     let n = not-first 8 (code.Break ∷ code.Continue ∷ code.Pass ∷ firstE) x (q .0 .0 .0 .1) ∙ not-first 13 (code.Continue ∷ code.Pass ∷ firstE) x (q .0 .0 .1) ∙ not-first 14 (code.Pass ∷ firstE) x (q .0 .1) ∙ not-first 15 firstE x (q .1) in
-    (open-plain refl (λ vs. or-next h (not-first 8 [] x (q .0 .0 .0 .1)) (or-first h (sym n ∙ at-start .pre .1 .seen) (at-target .target .ensures .0 .comes vs))), at-target .target .ensures .1)
+    (open-plain refl (λ vs. or-next h (not-first 8 [] x (q .0 .0 .0 .1)) (or-first h (sym n ∙ at-start .pre .1 .seen) (at-assignment .assignment .ensures .0 .comes vs))), at-assignment .assignment .ensures .1)
 
 pub rule-simple-spec : {M : Type 1} → statement M
 rule-simple-spec =
@@ -177,7 +177,7 @@ rule-simple-spec =
     word-requires
     word-requires-2
     word-requires-3
-    target-requires
+    assignment-requires
     same-length
     returns
     same-length-2
