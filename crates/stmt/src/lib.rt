@@ -7,7 +7,7 @@
 ghost use mathlib.Core.Path.{_≡_};
 ghost use mathlib.Core.Bool.{true};
 ghost use mathlib.Core.List.{List, [], _∷_};
-ghost use Prim.Native.Nat.{ℕ, _+_, _-_, _*_, _<_, _≤_};
+ghost use Prim.Native.Nat.{ℕ, _+_, _-_, _<_, _≤_};
 ghost use lib.ListN.{length};
 ghost use Rattle.grammar.specs.Sets.{mem};
 ghost use Rattle.grammar.specs.Grammar.{call};
@@ -21,13 +21,14 @@ ghost use Rattle.leaves.specs.Tokens.{eofAt, textBefore, symbolAt, Tokens};
 ghost use Rattle.leaves.specs.Contract.{a-node, a-list, a-growing, Rules, Parts, Ready, Begun};
 ghost use Rattle.simple.specs.Parts.{Newest};
 ghost use Rattle.stmt.specs.Parts.{linesRest, inner, indentedOn, classOn, methodsOn, methodsRest, classEnd, namedOn, givenOn, elifsOn, elifsRest, elseOn, branches, ifOn, elifOn, whileOn, rangeOn, forOn};
+
 mod whole;
 
 use leaves::Parsed;
 use leaves::State;
-pub use whole::program;
 use token::NodeNumber;
 use token::TokenNumber;
+pub use whole::program;
 
 // "at most 64 E and Block open at once" (01, Questions).
 pub const DEPTH: u32 = 64;
@@ -672,7 +673,7 @@ fn branch(
     s: State,
 ) -> Parsed
     requires { ⌜ Ready (now src) (now toks) (now tree) s 1 ⌝ }
-    requires { ⌜ (keyword .0 < s .at .0) × (s .nodes + 1 ≤ 2 * s .at .0) ⌝ }
+    requires { ⌜ keyword .0 < s .at .0 ⌝ }
     ensures { λ r. ⌜ Parts (now (src .entry)) (now (toks .entry)) left branches (list (then .0) ∷ node (test .0) ∷ token (keyword .0) ∷ []) a-node s (now (tree .entry)) r (now (tree .exit)) ⌝ }
     ensures { λ r. ⌜ Newest r ⌝ }
 {
