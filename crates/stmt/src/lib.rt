@@ -7,7 +7,7 @@
 ghost use mathlib.Core.Path.{_≡_};
 ghost use mathlib.Core.Bool.{true};
 ghost use mathlib.Core.List.{List, [], _∷_};
-ghost use Prim.Native.Nat.{ℕ, _+_, _-_, _*_, _<_, _≤_};
+ghost use Prim.Native.Nat.{ℕ, _+_, _-_, _<_, _≤_};
 ghost use lib.ListN.{length};
 ghost use Rattle.grammar.specs.Sets.{mem};
 ghost use Rattle.grammar.specs.Grammar.{call};
@@ -673,7 +673,7 @@ fn branch(
     s: State,
 ) -> Parsed
     requires { ⌜ Ready (now src) (now toks) (now tree) s 1 ⌝ }
-    requires { ⌜ (keyword .0 < s .at .0) × (s .nodes + 1 ≤ 2 * s .at .0) ⌝ }
+    requires { ⌜ keyword .0 < s .at .0 ⌝ }
     ensures { λ r. ⌜ Parts (now (src .entry)) (now (toks .entry)) left branches (list (then .0) ∷ node (test .0) ∷ token (keyword .0) ∷ []) a-node s (now (tree .entry)) r (now (tree .exit)) ⌝ }
     ensures { λ r. ⌜ Newest r ⌝ }
 {

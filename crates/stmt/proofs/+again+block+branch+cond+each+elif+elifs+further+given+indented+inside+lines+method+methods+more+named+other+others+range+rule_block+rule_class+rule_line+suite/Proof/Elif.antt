@@ -1,5 +1,15 @@
 -- `stmt::elif`, a member of the cycle.
 -- Assumes nothing.
+use Rattle.joint.proofs.Loops.{ready-of}
+use Rattle.joint.proofs.Ends.{act-wrote, tok-mark}
+use Rattle.joint.proofs.Chain.{part-then, part-stop}
+use Rattle.joint.proofs.Bounds.{after-call, spares-e}
+use Rattle.simple.proofs.Laws.{came-call, pays-block}
+use Rattle.leaves.proofs.Tokens.{took}
+use Rattle.pyhyeon.specs.Tables.{first, rank}
+use Rattle.token.specs.Code as code
+use mathlib.Core.Path.{refl}
+use mathlib.Core.List.{[], _∷_}
 use borrow.Author.Needs.{needs}
 use native.Mathlib.Omega.{arith}
 use Prim.Native.Nat.{ℕ}
@@ -15,46 +25,95 @@ calls t = (enter-reads.Asked, enter-reads.Learnt, block-below t, block.Post, put
 
 module _ (t : ℕ) where
   add-t : lts.Need-add-t (calls t) (elif-at t) reads.Post
-  add-t c = ?
+  add-t c = omega arith
 
   enter-requires : lts.Need-enter-requires (calls t) (elif-at t) reads.Post
-  enter-requires c κs = ?
+  enter-requires c κs =
+      let at-start = c .before .before .before .before .before .before in
+      let r = at-start .pre .1 .0 in
+      let l = took (code.Elif ∷ []) refl refl (r .tokens) (r .here) (at-start .pre .1 .1) in
+      ready-of (r .tokens) (omega arith)
 
   enum-known-test : lts.Need-enum-known-test (calls t) (elif-at t) reads.Post
-  enum-known-test c = ?
+  enum-known-test c = search needs
 
   block-requires : lts.Need-block-requires (calls t) (elif-at t) reads.Post
-  block-requires c κs = ?
+  unfolding first rank
+  block-requires c κs =
+      let at-test = c .before .before in
+      let at-enter = at-test .before .before .before .before in
+      let at-start = at-enter .before .before .before .before .before .before .before in
+      let r = at-start .pre .1 .0 in
+      let l = took (code.Elif ∷ []) refl refl (r .tokens) (r .here) (at-start .pre .1 .1) in
+      let g = after-call _ _ (r .tokens) spares-e refl (l .inside) (at-enter .enter .ensures) (at-test .test .given .1) in
+      (omega arith, ready-of (r .tokens) (omega arith))
 
   enum-known-body : lts.Need-enum-known-body (calls t) (elif-at t) reads.Post
-  enum-known-body c = ?
+  enum-known-body c = search needs
 
   put-elif-requires : lts.Need-put-elif-requires (calls t) (elif-at t) reads.Post
-  put-elif-requires c κs = ?
+  unfolding first rank
+  put-elif-requires c κs =
+      let at-body = c .before .before in
+      let at-block = at-body .before .before .before .before in
+      let at-test = at-block .before .before .before in
+      let at-enter = at-test .before .before .before .before in
+      let at-start = at-enter .before .before .before .before .before .before .before in
+      let r = at-start .pre .1 .0 in
+      let l = took (code.Elif ∷ []) refl refl (r .tokens) (r .here) (at-start .pre .1 .1) in
+      let g = after-call _ _ (r .tokens) spares-e refl (l .inside) (at-enter .enter .ensures) (at-test .test .given .1) in
+      let h = came-call _ _ (r .tokens) pays-block refl (g .here) (at-block .block .ensures) (at-body .body .given .1) in
+      omega arith
 
   enum-known-body-2 : lts.Need-enum-known-body-2 (calls t) (elif-at t) reads.Post
-  enum-known-body-2 c = ?
+  enum-known-body-2 c = search needs
 
   enum-known-test-2 : lts.Need-enum-known-test-2 (calls t) (elif-at t) reads.Post
-  enum-known-test-2 c = ?
+  enum-known-test-2 c = search needs
 
   same-length : lts.Need-same-length (calls t) (elif-at t) reads.Post
-  same-length c = ?
+  same-length c =
+      let at-enter = c .before .before .before .before .before .before .before .before .before .before .before .before .before .before .before .before .before .before in
+      let k = at-enter .enter .kept .1 .1 .0 in
+      omega arith
 
   returns : lts.Need-returns (calls t) (elif-at t) reads.Post
-  returns c = ?
+  unfolding first rank
+  returns c =
+      let at-put-elif = c .before .before .before .before in
+      let at-body = at-put-elif .before .before .before in
+      let at-block = at-body .before .before .before .before in
+      let at-test = at-block .before .before .before in
+      let at-enter = at-test .before .before .before .before in
+      let at-start = at-enter .before .before .before .before .before .before .before in
+      let r = at-start .pre .1 .0 in
+      let e = at-start .pre .1 .1 in
+      let l = took (code.Elif ∷ []) refl refl (r .tokens) (r .here) e in
+      let g = after-call _ _ (r .tokens) spares-e refl (l .inside) (at-enter .enter .ensures) (at-test .test .given .1) in
+      let h = came-call _ _ (r .tokens) pays-block refl (g .here) (at-block .block .ensures) (at-body .body .given .1) in
+      record { comes = λ vs. tok-mark (r .here) e (part-then (at-enter .enter .ensures) (at-test .test .given .1) (part-then (at-block .block .ensures) (at-body .body .given .1) (act-wrote (h .used) (at-put-elif .put-elif .ensures _)))) }
 
   same-length-2 : lts.Need-same-length-2 (calls t) (elif-at t) reads.Post
-  same-length-2 c = ?
+  same-length-2 c = search needs
 
   returns-2 : lts.Need-returns-2 (calls t) (elif-at t) reads.Post
-  returns-2 c = ?
+  returns-2 c =
+      let at-body2 = c .before in
+      let at-block = at-body2 .before .before .before .before in
+      let at-test = at-block .before .before .before in
+      let at-enter = at-test .before .before .before .before in
+      let at-start = at-enter .before .before .before .before .before .before .before in
+      record { comes = λ vs. tok-mark (at-start .pre .1 .0 .here) (at-start .pre .1 .1) (part-then (at-enter .enter .ensures) (at-test .test .given .1) (part-stop _ (at-block .block .ensures) (at-body2 .body2 .given .1))) }
 
   same-length-3 : lts.Need-same-length-3 (calls t) (elif-at t) reads.Post
-  same-length-3 c = ?
+  same-length-3 c = search needs
 
   returns-3 : lts.Need-returns-3 (calls t) (elif-at t) reads.Post
-  returns-3 c = ?
+  returns-3 c =
+      let at-test2 = c .before in
+      let at-enter = at-test2 .before .before .before .before in
+      let at-start = at-enter .before .before .before .before .before .before .before in
+      record { comes = λ vs. tok-mark (at-start .pre .1 .0 .here) (at-start .pre .1 .1) (part-stop _ (at-enter .enter .ensures) (at-test2 .test2 .given .1)) }
 
   pub meets : {M : Type 1} → lts.Closed (calls t) (elif-at t) reads.Post M
   meets = lts.spec (calls t) (elif-at t) reads.Post add-t enter-requires enum-known-test block-requires enum-known-body put-elif-requires enum-known-body-2 enum-known-test-2 same-length returns same-length-2 returns-2 same-length-3 returns-3

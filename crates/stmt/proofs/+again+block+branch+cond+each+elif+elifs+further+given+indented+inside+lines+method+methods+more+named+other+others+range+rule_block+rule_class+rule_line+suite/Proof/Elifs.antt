@@ -1,5 +1,17 @@
 -- `stmt::elifs`, a member of the cycle.
 -- Assumes nothing.
+use Rattle.stmt.proofs.Branches.{taking-elif}
+use Rattle.stmt.specs.Parts.{elifOn}
+use Rattle.joint.proofs.Loops.{ready-of}
+use Rattle.joint.proofs.Ends.{one-then, none-last}
+use Rattle.joint.proofs.Chain.{flat, flat-then, flat-stop, or-first, or-next}
+use Rattle.simple.proofs.Laws.{came-start, came-node}
+use Rattle.leaves.proofs.Tokens.{before-eof}
+use Rattle.leaves.proofs.Tests.{learnt}
+use Rattle.grammar.specs.Descent.{null, begins}
+use Rattle.token.specs.Code as code
+use mathlib.Core.Path.{refl}
+use mathlib.Core.List.{[], _∷_}
 use borrow.Author.Needs.{needs}
 use native.Mathlib.Omega.{arith}
 use Prim.Native.Nat.{ℕ}
@@ -16,37 +28,85 @@ calls t = (symbol-at-reads.Asked, symbol-at-reads.Learnt, is-symbol-reads.Asked,
 
 module _ (t : ℕ) where
   symbol-at-requires : lts.Need-symbol-at-requires (calls t) (elifs-at t) reads.Post
-  symbol-at-requires c κs = ?
+  symbol-at-requires c κs =
+      let at-start = c .before .before .before .before in
+      (at-start .pre .1 .tokens, at-start .pre .1 .here)
 
   is-symbol-requires : lts.Need-is-symbol-requires (calls t) (elifs-at t) reads.Post
-  is-symbol-requires c κs = ?
+  is-symbol-requires c κs = search needs
 
   elif-requires : lts.Need-elif-requires (calls t) (elifs-at t) reads.Post
-  elif-requires c κs = ?
+  elif-requires c κs =
+      let at-if1 = c .before in
+      let at-is-symbol = at-if1 .before in
+      let at-symbol-at = at-is-symbol .before in
+      let at-start = at-symbol-at .before .before .before .before .before in
+      let r = at-start .pre .1 in
+      let e = learnt (code.Elif ∷ []) (at-if1 .if1 .taken) (at-is-symbol .is-symbol .ensures) (at-symbol-at .symbol-at .ensures) in
+      (omega arith, (r, e))
 
   enum-known-one : lts.Need-enum-known-one (calls t) (elifs-at t) reads.Post
-  enum-known-one c = ?
+  enum-known-one c = search needs
 
   further-requires : lts.Need-further-requires (calls t) (elifs-at t) reads.Post
-  further-requires c κs = ?
+  further-requires c κs =
+      let at-one = c .before .before in
+      let at-elif = at-one .before .before .before .before in
+      let at-if1 = at-elif .before .before in
+      let at-is-symbol = at-if1 .before in
+      let at-symbol-at = at-is-symbol .before in
+      let at-start = at-symbol-at .before .before .before .before .before in
+      let r = at-start .pre .1 in
+      let e = learnt (code.Elif ∷ []) (at-if1 .if1 .taken) (at-is-symbol .is-symbol .ensures) (at-symbol-at .symbol-at .ensures) in
+      let lt = before-eof (code.Elif ∷ []) refl (r .tokens) (r .here) e in
+      let g = came-start _ _ (r .tokens) taking-elif lt (at-elif .elif .ensures) (at-one .one .given .1) in
+      (omega arith, (ready-of (r .tokens) (omega arith), came-node g))
 
   enum-known-one-2 : lts.Need-enum-known-one-2 (calls t) (elifs-at t) reads.Post
-  enum-known-one-2 c = ?
+  enum-known-one-2 c = search needs
 
   same-length : lts.Need-same-length (calls t) (elifs-at t) reads.Post
-  same-length c = ?
+  same-length c = search needs
 
   returns : lts.Need-returns (calls t) (elifs-at t) reads.Post
-  returns c = ?
+  unfolding begins null
+  returns c =
+      let at-further = c .before .before in
+      let at-one = at-further .before .before .before in
+      let at-elif = at-one .before .before .before .before in
+      let at-if1 = at-elif .before .before in
+      let at-is-symbol = at-if1 .before in
+      let at-symbol-at = at-is-symbol .before in
+      let at-start = at-symbol-at .before .before .before .before .before in
+      let r = at-start .pre .1 in
+      let e = learnt (code.Elif ∷ []) (at-if1 .if1 .taken) (at-is-symbol .is-symbol .ensures) (at-symbol-at .symbol-at .ensures) in
+      record { comes = λ vs. or-first (r .here) e (flat (flat-then {p = elifOn} (at-elif .elif .ensures) (at-one .one .given .1) (one-then (at-further .further .ensures .comes vs)))) }
 
   same-length-2 : lts.Need-same-length-2 (calls t) (elifs-at t) reads.Post
-  same-length-2 c = ?
+  same-length-2 c = search needs
 
   returns-2 : lts.Need-returns-2 (calls t) (elifs-at t) reads.Post
-  returns-2 c = ?
+  unfolding begins null
+  returns-2 c =
+      let at-one2 = c .before in
+      let at-elif = at-one2 .before .before .before .before in
+      let at-if1 = at-elif .before .before in
+      let at-is-symbol = at-if1 .before in
+      let at-symbol-at = at-is-symbol .before in
+      let at-start = at-symbol-at .before .before .before .before .before in
+      let r = at-start .pre .1 in
+      let e = learnt (code.Elif ∷ []) (at-if1 .if1 .taken) (at-is-symbol .is-symbol .ensures) (at-symbol-at .symbol-at .ensures) in
+      record { comes = λ vs. or-first (r .here) e (flat (flat-stop {p = elifOn} _ _ (at-elif .elif .ensures) (at-one2 .one2 .given .1))) }
 
   returns-3 : lts.Need-returns-3 (calls t) (elifs-at t) reads.Post
-  returns-3 c = ?
+  unfolding begins null
+  returns-3 c =
+      let at-is-symbol = c .before in
+      let at-symbol-at = at-is-symbol .before in
+      let at-start = at-symbol-at .before .before .before .before .before in
+      let r = at-start .pre .1 in
+      let e = learnt (code.Elif ∷ []) (c .if1 .left) (at-is-symbol .is-symbol .ensures) (at-symbol-at .symbol-at .ensures) in
+      record { comes = λ vs. or-next (r .here) e (none-last (r .used)) }
 
   pub meets : {M : Type 1} → lts.Closed (calls t) (elifs-at t) reads.Post M
   meets = lts.spec (calls t) (elifs-at t) reads.Post symbol-at-requires is-symbol-requires elif-requires enum-known-one further-requires enum-known-one-2 same-length returns same-length-2 returns-2 returns-3
