@@ -17,7 +17,7 @@ from descent import LIMIT, Descent  # noqa: E402
 from scan import Refusal, scan, utf8  # noqa: E402
 from tree import KIND_NAMES  # noqa: E402
 
-LARGEST_FILE = 65536  # the program reads a file into a buffer of this size
+LARGEST_FILE = 65536  # the program reads its input into a buffer of this size
 LONGEST_SOURCE = 1023  # and has areas for a source of this size
 STATEMENTS = "Program If While For Def Return Assign Class Break Continue Pass Expr Method Elif Else".split()
 
@@ -152,7 +152,7 @@ def main():
         kinds.update(made)
     missing = [name for kind, name in enumerate(KIND_NAMES, 1) if kind not in kinds and name not in STATEMENTS]
     assert not missing, missing
-    open(f"{crate}/data/expressions", "w").write(text)
+    open(f"{crate}/stdin", "w").write(text)
     open(f"{crate}/stdout", "w").write("".join(stdout))
     print(f"{len(kept)} sources, {len(text)} bytes; " + ", ".join(f"{o}: {outcomes[o]}" for o in sorted(outcomes, key=lambda o: (len(o), o))))
 

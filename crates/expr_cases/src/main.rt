@@ -1,5 +1,5 @@
-// Replays the stored sources of the file `expressions` through `lexer::scan` and then `expr::comma_list`, the part t of the grammar. A line of
-// the file is a source in hexadecimal, an empty one a dash; it is printed with ` = ` and the answer behind it:
+// Reads expressions from standard input, and replays each through `lexer::scan` and then `expr::comma_list`, the part t of the grammar. A line of
+// the input is a source in hexadecimal, an empty one a dash; it is printed with ` = ` and the answer behind it:
 //
 //     ok AT NODES OPENED WORD ..   the token after t, how many nodes and openings, and the eight words of each node
 //     no NUMBER PLACE              a refusal of the scanner
@@ -12,6 +12,7 @@ use answers::print_answer;
 use cases::hex::unhex;
 use cases::lines::line_end;
 use cases::print;
+use libc::STDIN_FILENO;
 
 fn print_case(line: &[u8]) {
     print(line);
@@ -34,6 +35,6 @@ fn print_cases(text: &[u8]) {
 
 fn main() {
     let mut buffer = io::large_buffer();
-    let n = cases::lines::read(b"expressions", &mut buffer);
+    let n = io::read_full(STDIN_FILENO, &mut buffer);
     print_cases(&buffer[..n]);
 }
