@@ -6,7 +6,7 @@ use mathlib.Core.List.{List, [], _∷_, _++_}
 use Prim.Native.Nat.{ℕ, _+_, _*_, _≤_, _<_}
 use native.Mathlib.Omega.{arith}
 use lib.Dec.{T, leb, ltb, leb→le, ltb→lt}
-use lib.ListN.{length, drop}
+use lib.ListN.{drop}
 use Rattle.grammar.specs.Sets.{mem}
 use Rattle.grammar.specs.Grammar.{Part, skip, tok, see, call, _⨾_}
 use Rattle.grammar.specs.Trial.{okIf, seeP, skipP}

@@ -1,15 +1,13 @@
 -- A statement's node is the last that is written for it.
 -- Assumes nothing.
-use mathlib.Core.Path.{_≡_, ap, sym, _∙_}
+use mathlib.Core.Path.{_≡_, ap}
 use mathlib.Core.List.{List}
 use Prim.Native.Nat.{ℕ, _+_}
 use native.Mathlib.Omega.{arith}
-use Rattle.token.specs.declared.NodeNumber.{NodeNumber}
 use Rattle.pyhyeon.specs.Machine.{Value}
 use Rattle.pyhyeon.specs.Action.{Action}
 use Rattle.leaves.specs.declared.State.{State}
 use Rattle.leaves.specs.declared.Added.{Added}
-use Rattle.leaves.specs.declared.Parsed.{Parsed}
 use Rattle.leaves.specs.declared.Parsed.the-variants.{Node, Refused}
 use Rattle.leaves.specs.Contract.{Writes}
 use Rattle.simple.specs.Parts.{Newest}

@@ -9,7 +9,6 @@ use Rattle.token.specs.Code as code
 use native.Mathlib.Omega.{arith}
 use mathlib.Core.Path.{refl, sym, _∙_}
 use mathlib.Core.List.{[], _∷_}
-use borrow.Author.Needs.{needs}
 use Rattle.simple.proofs.line_end.Statement.{statement}
 use Rattle.simple.proofs.line_end.Tie as tie
 

@@ -9,7 +9,6 @@ use Rattle.leaves.proofs.Tokens.{before-eof}
 use Rattle.pyhyeon.specs.Tables.{first, firstSimple, rank}
 use native.Mathlib.Omega.{arith}
 use mathlib.Core.Path.{refl}
-use mathlib.Core.List.{[], _∷_}
 use borrow.Author.Needs.{needs}
 use Rattle.simple.proofs.simples.Statement.{statement}
 use Rattle.simple.proofs.simples.Tie as tie

@@ -16,7 +16,7 @@ use Rattle.token.specs.Code as code
 use native.Mathlib.Omega.{arith}
 use mathlib.Core.Path.{_≡_, refl, sym, _∙_}
 use mathlib.Core.List.{[], _∷_}
-use Prim.Native.Nat.{ℕ, _+_, _-_}
+use Prim.Native.Nat.{_+_, _-_}
 use borrow.Author.Needs.{needs}
 use Rattle.simple.proofs.simples_rest.Statement.{statement}
 use Rattle.simple.proofs.simples_rest.Tie as tie
