@@ -1,4 +1,5 @@
 pub mod Factors
+pub mod First
 pub mod Language
 pub mod Agreement
 pub mod Meter
