@@ -21,7 +21,7 @@ SCRIPTS = [
     (b"a = 1", 0, 0), (b"if a: b\n\nelse: c\n", 14, 9), (b"if a: b\nelse: c\n", 0, 0), (b"0.0e999", 11, 0),
 ]
 
-# Each question at a smallest source: its no in number and place, by the sentence of 01. 1 to 4 are asked of n and the slices: see SHORT in reader_cases.py.
+# Each question at a smallest source: its no in number and place, by the sentence of 01. 1 to 4 are asked of n and the slices: see SMALLEST_SLICES in reader_cases.py.
 SMALLEST = [
     (b"\xff", 5, 0), (b"\t", 6, 0), (b" ", 7, 0), (b"  a\n ", 8, 4), (b"!", 9, 0), (b"9223372036854775808", 10, 0), (b"1.0e24", 11, 0),
     ("\u0080".encode(), 12, 0), (b"(" * 65, 13, 64), (b")", 14, 0),

@@ -7,7 +7,8 @@ use Rattle.grammar.specs.Limits.{clean, credit, afford}
 use Rattle.pyhyeon.specs.Rules.{list, more, entry, postfix, parameters, rest}
 use Rattle.pyhyeon.specs.Tables.{least, rank, first, primary, pyhyeon}
 use Rattle.pyhyeon.specs.Prices.{writes, needs, gives, prices}
-use Rattle.joint.proofs.Bounds.{Bounded, Modest}
+use Rattle.joint.proofs.Bounds.{Bounded}
+use Rattle.joint.proofs.Counts.{Modest}
 use Rattle.expr.specs.Parts.{further, others, name, valued}
 use Rattle.grammar.specs.Grammar.{call}
 use Rattle.pyhyeon.specs.Rules.{E}

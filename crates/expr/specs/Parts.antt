@@ -4,9 +4,9 @@ use Prim.Native.Nat.{ℕ}
 use mathlib.Core.List.{List, [], _∷_}
 use Rattle.grammar.specs.Grammar.{Part, skip, act, tok, call, _⨾_, _∕_, many, tail}
 use lib.ListN.{getD}
-use Rattle.token.specs.Code.{Or, And, Star, SlashSlash, Slash, Percent, Not, Plus, Minus, LBrace, RBrace, RParen, RBracket, Colon, Comma}
+use Rattle.token.specs.Code.{Or, And, Star, SlashSlash, Slash, Percent, Plus, Minus, LBrace, RBrace, RParen, RBracket, Colon, Comma}
 use Rattle.ast.specs.Kind as kind
-use Rattle.pyhyeon.specs.Action.{Action, mark, named, signs-more, binary, compare, compare-more, compared, list-one, list-join, list-done, enclose, empty, group, tuple, pair, apply, index, lambda}
+use Rattle.pyhyeon.specs.Action.{Action, mark, named, binary, compare, compare-more, compared, list-one, list-done, enclose, group, tuple, pair, apply, index, lambda}
 use Rattle.pyhyeon.specs.Rules as rules
 use Rattle.pyhyeon.specs.Rules.{Rule, E, S, tk, names, more, list, parameters, entry, rest, comparisons}
 
@@ -17,7 +17,7 @@ operand level = getD (rules.A ∷ rules.C ∷ rules.P ∷ []) level rules.U
 abbrev pub operators : ℕ → List ℕ
 operators level = getD ((Or ∷ []) ∷ (And ∷ []) ∷ (Plus ∷ Minus ∷ []) ∷ []) level (Star ∷ SlashSlash ∷ Slash ∷ Percent ∷ [])
 
--- an operator and its right operand, of the level r
+-- an operator of `ops` and its right operand, the rule r
 abbrev pub term : Rule → List ℕ → Part Action Rule
 term r ops = tok ops ⨾ act mark ⨾ call r ⨾ act binary
 
@@ -30,9 +30,6 @@ chained = many further ⨾ act compared
 
 abbrev pub compares : Part Action Rule
 compares = call S ⨾ act compare ⨾ chained
-
-abbrev pub sign : Part Action Rule
-sign = tok (Not ∷ Minus ∷ Plus ∷ []) ⨾ act signs-more
 
 -- the rest of a list of expressions, of names, of pairs
 abbrev pub others : Part Action Rule

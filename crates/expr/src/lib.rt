@@ -7,27 +7,25 @@
 ghost use mathlib.Core.Path.{_≡_};
 ghost use mathlib.Core.Bool.{true, false};
 ghost use mathlib.Core.List.{[], _∷_};
-ghost use Prim.Native.Nat.{ℕ, _+_, _*_, _-_, _<_};
+ghost use Prim.Native.Nat.{_+_, _<_};
 ghost use Rattle.grammar.specs.Sets.{mem};
-ghost use Rattle.grammar.specs.Grammar.{call, many, tail, act, _⨾_, _∕_};
-ghost use Rattle.token.specs.Code.{Comma, Eof, String, Dot, LParen, RParen, LBracket};
+ghost use Rattle.grammar.specs.Grammar.{call, many, act, _⨾_, _∕_};
+ghost use Rattle.token.specs.Code.{Eof, String, Dot, LParen, RParen, LBracket};
 ghost use Rattle.pyhyeon.specs.Machine.{token, node, growing, list, chain};
-ghost use Rattle.pyhyeon.specs.Rules.{E, O, C, S, P, U, F, entry, more, postfix};
+ghost use Rattle.pyhyeon.specs.Rules.{E, O, C, S, P, U, F, entry, postfix};
 ghost use Rattle.pyhyeon.specs.Rules as rules;
 ghost use Rattle.pyhyeon.specs.Tables.{firstU, primary, pairsOn, setOn};
 ghost use Rattle.pyhyeon.specs.Tables as tables;
 ghost use Rattle.leaves.specs.Tokens.{symbolAt};
-ghost use Rattle.leaves.specs.declared.Parsed.the-variants as parsed;
 ghost use Rattle.leaves.specs.Contract.{a-node, a-list, Rules, Parts, Lists, Ready, Begun};
 ghost use Rattle.ast.specs.Kind as kind;
-ghost use Rattle.pyhyeon.specs.Action.{empty, list-done};
+ghost use Rattle.pyhyeon.specs.Action.{empty};
 ghost use Rattle.expr.specs.Parts.{operand, operators, term, chained, compares, others, entries, closes, enclosed, lambdaOn, lambdaBody, teeOn, valued, pairsRest, tupleRest, roundOn, callOn, indexOn};
 
 mod comma;
 mod parameters;
 
 pub use comma::comma_list;
-use leaves::Added;
 use leaves::Parsed;
 use leaves::State;
 pub use parameters::names;

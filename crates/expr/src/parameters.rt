@@ -1,5 +1,4 @@
 // The names of a lambda, Def or Method.
-ghost use mathlib.Core.Path.{_≡_};
 ghost use mathlib.Core.List.{[], _∷_};
 ghost use Prim.Native.Nat.{ℕ, _<_};
 ghost use Rattle.grammar.specs.Grammar.{tail, act, _⨾_};

@@ -1,18 +1,19 @@
--- What the answer of a rule is made of: a law for each constructor of a part, as code meets it. The proof of a function names them in the order of its tests and calls.
+-- What the answer of a rule is made of: a law for each constructor of a part, as code meets it. The proof of a function names them in the order of
+-- its tests and calls.
 -- Assumes nothing.
-use mathlib.Core.Path.{_≡_, refl, ap, sym, _∙_, subst}
+use mathlib.Core.Path.{_≡_, refl, ap, sym, _∙_}
 use mathlib.Core.Bool.{Bool, true, false}
 use mathlib.Core.List.{List, [], _∷_, _++_}
-use Prim.Native.Nat.{ℕ, zero, suc, _+_, _-_, _≤_, _<_}
+use Prim.Native.Nat.{ℕ, zero, suc, _+_, _-_, _≤_}
 use native.Mathlib.Omega.{arith}
 use native.Mathlib.Numerals.{add-one}
 use lib.Dec.{T}
-use lib.ListN.{length, getD, drop}
+use lib.ListN.{getD}
 use lib.Seq.{drop-cons}
 use Rattle.grammar.specs.Sets.{mem, sees}
 use Rattle.grammar.specs.Grammar.{Part, skip, act, tok, see, call, _⨾_, _∕_, many, tail}
-use Rattle.grammar.specs.Trial.{Machine, St, Out, ok, fail, okIf, takeFrom, takeP, seeP, actP, skipP}
-use Rattle.grammar.specs.Descent.{Answer, done, no, deep, stuck, Walk, begins, thenD, sameD, seqD, byD, manyD, listD, walk, enter, descend}
+use Rattle.grammar.specs.Trial.{Machine, St, Out, ok, fail, okIf, takeFrom, takeP, actP, skipP}
+use Rattle.grammar.specs.Descent.{Answer, done, no, deep, stuck, Walk, begins, thenD, sameD, seqD, byD, walk, enter, descend}
 use Rattle.grammar.specs.Check.{low}
 use Rattle.grammar.proofs.Step.{descend-is, many-is, list-is}
 use Rattle.grammar.proofs.Whole.{Sound, tested}

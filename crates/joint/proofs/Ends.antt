@@ -16,8 +16,8 @@ use Rattle.ast.specs.Node.{none}
 use Rattle.ast.specs.Operator.{binaryOp}
 use Rattle.ast.specs.Words.{nodesOf}
 use Rattle.ast.proofs.Nodes.{length-nodes}
-use Rattle.pyhyeon.specs.Machine.{Value, token, node, signs, growing, list, chain, Kept, number, count, last, operand, one, both, whole, put}
-use Rattle.pyhyeon.specs.Action.{Action, mark, literal, signs-none, unary, binary, compare, compare-more, compared, list-none, list-one, list-join, list-done, binaryOf, perform}
+use Rattle.pyhyeon.specs.Machine.{Value, token, node, signs, growing, list, chain, Kept, number, count, operand, one, whole, put}
+use Rattle.pyhyeon.specs.Action.{Action, mark, literal, signs-none, unary, binary, compare, compare-more, compared, list-none, list-one, list-done, binaryOf, perform}
 use Rattle.pyhyeon.specs.Rules.{Rule}
 use Rattle.leaves.specs.declared.State.{State}
 use Rattle.leaves.specs.declared.Added.{Added}
@@ -65,9 +65,6 @@ module _ {src toks : List ℕ} {room : ℕ} {vs : List Value} {s : State} {tr : 
 module _ {src toks : List ℕ} {room : ℕ} {out : Shape} {vs ws : List Value} {s : State} {tr : List ℕ} {q : Part Action Rule} {a : Parsed} {t : List ℕ} where
   pub wrote-then : {x : Action} {ins : List Value} {tr′ : List ℕ} {r : Added} → Writes src toks x ins s tr r tr′ → Comes src toks room q out vs (node (r .0 .0) ∷ ws) (r .1) tr′ a t → Comes src toks room (act x ⨾ q) out vs (ins ++ ws) s tr a t
   wrote-then {r = r} w c = act-then (w .same ws) refl refl (rw (w .after, w .node) at c)
-
-  pub literal-then : {tr′ : List ℕ} {r : Added} → Literals src toks s tr r tr′ → Comes src toks room q out vs (node (r .0 .0) ∷ ws) (r .1) tr′ a t → Comes src toks room (act literal ⨾ q) out vs ws s tr a t
-  literal-then {r = r} w c = act-then (w .same ws) refl refl (rw (w .after, w .node) at c)
 
   -- a token that is taken and put at hand
   pub tok-mark : {set : List ℕ} → s .at .0 ≤ eofAt toks → mem (symbolAt src toks (s .at .0)) set ≡ true → Comes src toks room q out vs (token (s .at .0) ∷ ws) (past s) tr a t → Comes src toks room (tok set ⨾ act mark ⨾ q) out vs ws s tr a t

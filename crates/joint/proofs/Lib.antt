@@ -1,7 +1,9 @@
 pub mod Chain
+pub mod Counts
 pub mod Bounds
 pub mod Ends
 pub mod Loops
 pub mod Passing
 pub mod Promised
 pub mod Handed
+pub mod Seen

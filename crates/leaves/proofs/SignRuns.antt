@@ -8,7 +8,6 @@ use native.Mathlib.Decide.{decLt}
 use native.Mathlib.Omega.{arith}
 use lib.ListN.{length}
 use Rattle.grammar.specs.Sets.{mem}
-use Rattle.token.specs.Code.{Not, Minus, Plus}
 use Rattle.token.specs.declared.NodeNumber.{NodeNumber}
 use Rattle.pyhyeon.specs.Machine.{Value, node, Kept, write}
 use Rattle.pyhyeon.specs.Action.{unaryNode, wrap}

@@ -6,7 +6,7 @@ use mathlib.Core.Bool.{true}
 use mathlib.Core.List.{List, [], _∷_, _++_}
 use lib.ListN.{length, drop}
 use Rattle.grammar.specs.Sets.{mem}
-use Rattle.grammar.specs.Grammar.{Part, many, _⨾_}
+use Rattle.grammar.specs.Grammar.{Part, _⨾_}
 use Rattle.grammar.specs.Trial.{St}
 use Rattle.grammar.specs.Descent.{Answer, done, no, deep, walk, descend}
 use Rattle.token.specs.Code as token
@@ -56,7 +56,8 @@ a-list n c = list n
 abbrev pub a-growing : Shape
 a-growing n c = growing n (c - 1)
 
--- What the descent comes to, and the answer and the tree of the code: one value more at hand (`out` says which); or a refusal, 14 or 13, at the state's token, with whatever is at hand. After a node the state has counted the text before its token.
+-- What the descent comes to, and the answer and the tree of the code: one value more at hand (`out` says which); or a refusal, 14 or 13, at the state's
+-- token, with whatever is at hand. After a value the state has counted the text before its token.
 pub data Told (src toks : List ℕ) (out : Shape) (vs : List Value) : Answer (machine src (tokensOf src toks)) → Parsed → List ℕ → Type 0 where
   told-node : (n : NodeNumber) (s : State) (tr : List ℕ) → s .used ≡ textBefore src toks (s .at .0) → Told src toks out vs (done (s .opened) (state src toks s tr (out (n .0) (s .nodes) ∷ vs))) (Node n s) tr
   told-no : (s : State) (tr : List ℕ) (ws : List Value) → Told src toks out vs (no (s .opened) (state src toks s tr ws)) (Refused 14 s) tr

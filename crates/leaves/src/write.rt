@@ -1,7 +1,7 @@
 // The actions that write one node each. A node ends where the token ends that was taken last.
 ghost use mathlib.Core.Path.{_≡_};
 ghost use mathlib.Core.List.{List, [], _∷_};
-ghost use Prim.Native.Nat.{ℕ, _+_, _-_, _^_, _<_};
+ghost use Prim.Native.Nat.{ℕ, _-_, _^_, _<_};
 ghost use Rattle.ast.specs.Node.{made};
 ghost use Rattle.ast.specs.Words.{nodeAt};
 ghost use Rattle.pyhyeon.specs.Machine.{token, node, growing, list};

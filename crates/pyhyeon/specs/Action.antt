@@ -15,8 +15,8 @@ use Rattle.ast.specs.Operator.{unaryOp, binaryOp}
 use Rattle.pyhyeon.specs.Machine.{Value, node, signs, growing, list, chain, Kept, number, count, last, operand, one, both, whole, top, taken, put, write, nth, change}
 use Rattle.pyhyeon.specs.Machine as value
 
--- The values that an action takes are named first, the one that came last to hand last. All but `mark`, `compared` and those on lists
--- and signs write nodes (`unary` one for each sign); `group` and `assign` change one.
+-- The values that an action takes are named first, the one that came last to hand last. All but `mark`, `compared`, `group` and those
+-- on lists and signs write nodes (`unary` one for each sign); `group`, `assign` and `list-join` change one.
 pub data Action : Type 0 where
   mark : Action  -- puts the token that was taken last at hand
   literal : Action  -- the literal that was taken

@@ -1,11 +1,11 @@
-// The reader of a source (src/lib.rs, `parse_source`): the fourteen questions in their order, of which the first no decides, over four lent slices.
+// The reader of a source (src/lib.rs, `parse_source`): the fourteen questions in their order, of which the first no decides, over a source and three lent slices.
 //
 // The areas are the fronts of the slices: for a source of n bytes 3(n+1) words of tokens, n bytes of text and 16n+16 words of tree. `parse_source` lends
 // the areas alone to what works in them, so what lies beyond stays. Nothing is cleared before the work: each word of an area is written by it, or is
 // zeroed once behind it.
 ghost use mathlib.Core.Path.{_≡_};
 ghost use mathlib.Core.List.{_++_};
-ghost use Prim.Native.Nat.{_+_, _*_, _≤_};
+ghost use Prim.Native.Nat.{_*_, _≤_};
 ghost use lib.ListN.{length, take, drop, replicate};
 ghost use Rattle.lexer.specs.Scan.{tokenList};
 ghost use Rattle.reader.specs.declared.Answer.the-variants as answer;

@@ -7,7 +7,7 @@ use Rattle.grammar.specs.Limits.{clean, credit, afford}
 use Rattle.pyhyeon.specs.Rules.{Simple, more}
 use Rattle.pyhyeon.specs.Tables.{first, least, rank, tJoined, pyhyeon}
 use Rattle.pyhyeon.specs.Prices.{writes, needs, gives}
-use Rattle.joint.proofs.Bounds.{Modest}
+use Rattle.joint.proofs.Counts.{Modest}
 
 pub low-simples : T (low pyhyeon 100 100 (more (call Simple)))
 unfolding low takes least rank

@@ -17,7 +17,7 @@ use Rattle.leaves.specs.declared.Parsed.the-variants.{Node}
 pub record Newest (r : Parsed) : Type 0 where
   pub last : (n : NodeNumber) (s : State) → r ≡ Node n s → n .0 + 1 ≡ s .nodes
 
--- `return` and after it; a target or an expression alone; the value after `=`
+-- after `return`; the value after `=`; a target with its value, or an expression alone
 abbrev pub returnOn : Part Action Rule
 returnOn = tJoined ⨾ act return
 

@@ -22,7 +22,7 @@ use Rattle.leaves.specs.declared.Parsed.the-variants.{Node, Refused}
 use Rattle.leaves.specs.Contract.{a-node, a-list, a-growing, Comes, Parts}
 use Rattle.joint.proofs.Chain.{_⨟_, is-used, act-last, part-then, part-stop, flat-then, flat-stop}
 use Rattle.joint.proofs.Ends.{list-last}
-use Rattle.joint.proofs.Bounds.{Modest}
+use Rattle.joint.proofs.Counts.{Modest}
 use Rattle.simple.specs.Parts.{Newest}
 use Rattle.stmt.specs.Parts.{inner}
 

@@ -8,8 +8,8 @@ use Rattle.pyhyeon.specs.Action.{list-join}
 use Rattle.pyhyeon.specs.Rules.{elifs}
 use Rattle.pyhyeon.specs.Tables.{first, least, rank, pyhyeon}
 use Rattle.pyhyeon.specs.Prices.{writes, needs, gives, prices}
-use Rattle.joint.proofs.Bounds.{Modest}
-use Rattle.simple.proofs.Laws.{Taking}
+use Rattle.joint.proofs.Counts.{Modest}
+use Rattle.joint.proofs.Counts.{Taking}
 use Rattle.stmt.specs.Parts.{elifOn, elifsOn, elseOn}
 
 pub low-elifs : T (low pyhyeon 100 100 (many (elifs ⨾ act list-join)))

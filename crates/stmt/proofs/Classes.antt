@@ -9,8 +9,8 @@ use Rattle.ast.specs.Kind as kind
 use Rattle.pyhyeon.specs.Rules.{tk, more, definition}
 use Rattle.pyhyeon.specs.Tables.{first, least, rank, pyhyeon}
 use Rattle.pyhyeon.specs.Prices.{writes, needs, gives}
-use Rattle.joint.proofs.Bounds.{Modest}
-use Rattle.simple.proofs.Laws.{Taking}
+use Rattle.joint.proofs.Counts.{Modest}
+use Rattle.joint.proofs.Counts.{Taking}
 
 pub low-methods : T (low pyhyeon 100 100 (many (more (definition kind.Method))))
 unfolding low takes least rank

@@ -10,7 +10,7 @@ use Rattle.pyhyeon.specs.Rules.{Rule, Line, Block, E, tk, called, more, paramet
 use Rattle.pyhyeon.specs.Tables.{linesOn}
 use Rattle.leaves.specs.declared.State.{State}
 
--- "fed the source and its tokens": no token taken, no node written, no rule opened
+-- where Program begins: no token taken, no node written, no rule opened
 abbrev pub start : State
 start = record { at = record { 0 = 0 }; nodes = 0; opened = 0; used = 0 }
 
@@ -45,7 +45,7 @@ givenOn k = parameters ⨾ tk RParen ⨾ call Block ⨾ act (define k)
 abbrev pub namedOn : ℕ → Part Action Rule
 namedOn k = called ⨾ tk LParen ⨾ givenOn k
 
--- an If after its keyword, and after its first Block; its Elifs; those after the first; its Else
+-- the Elifs after the first; all Elifs; the Else; both, and the If; an If after its keyword
 abbrev pub elifsRest : Part Action Rule
 elifsRest = many (elifs ⨾ act list-join) ⨾ act list-done
 

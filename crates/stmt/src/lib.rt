@@ -7,8 +7,7 @@
 ghost use mathlib.Core.Path.{_≡_};
 ghost use mathlib.Core.Bool.{true};
 ghost use mathlib.Core.List.{List, [], _∷_};
-ghost use Prim.Native.Nat.{ℕ, _+_, _-_, _<_, _≤_};
-ghost use lib.ListN.{length};
+ghost use Prim.Native.Nat.{ℕ, _<_, _≤_};
 ghost use Rattle.grammar.specs.Sets.{mem};
 ghost use Rattle.grammar.specs.Grammar.{call};
 ghost use Rattle.token.specs.Code.{Elif, Dedent};
@@ -31,7 +30,7 @@ use token::TokenNumber;
 pub use whole::program;
 
 // "at most 64 E and Block open at once" (01, Questions).
-pub const DEPTH: u32 = 64;
+const DEPTH: u32 = 64;
 
 // Line: class, def, if, while, for, or simples.
 fn rule_line(src: &[u8], toks: &[u32], tree: &mut [u32], left: u32, s: State) -> Parsed

@@ -1,5 +1,4 @@
 // Program: Newlines, Lines each with Newlines around, end.
-ghost use mathlib.Core.Path.{_≡_};
 ghost use mathlib.Core.List.{[], _∷_};
 ghost use Prim.Native.Nat.{ℕ, _+_, _*_, _≤_};
 ghost use lib.ListN.{length};
@@ -16,26 +15,27 @@ use leaves::State;
 use token::NodeNumber;
 use token::TokenNumber;
 
-pub fn program(src: &[u8], toks: &[u32], tree: &mut [u32]) -> Parsed
-    requires { ⌜ Tokens (now src) (now toks) ⌝ }
-    requires { ⌜ 16 * eofAt (now toks) + 16 ≤ length (now tree) ⌝ }
-    ensures { λ r. ⌜ Rules (now (src .entry)) (now (toks .entry)) depth Program a-node start (now (tree .entry)) r (now (tree .exit)) ⌝ }
+fn rule_program(src: &[u8], toks: &[u32], tree: &mut [u32], left: u32, s: State) -> Parsed
+    requires { ⌜ Ready (now src) (now toks) (now tree) s 0 ⌝ }
+    ensures { λ r. ⌜ Rules (now (src .entry)) (now (toks .entry)) left Program a-node s (now (tree .entry)) r (now (tree .exit)) ⌝ }
 {
-    let line = stmt_leaves::skip_newlines(src, toks, TokenNumber(0));
-    let s = State {
+    let opened = s.opened + 1;
+    let at = s.at;
+    let line = stmt_leaves::skip_newlines(src, toks, at);
+    let on = State {
         at: line,
-        nodes: 0,
-        opened: 1,
-        used: 0,
+        nodes: s.nodes,
+        opened: opened,
+        used: s.used,
     };
     if stmt_leaves::begins_line(leaves::symbol_at(src, toks, line)) {
-        let body = lines(src, toks, tree, DEPTH, s);
+        let body = lines(src, toks, tree, left, on);
         match body {
             Parsed::Node(n, after) => end(src, toks, tree, n, after),
             Parsed::Refused(code, after) => Parsed::Refused(code, after),
         }
     } else {
-        end(src, toks, tree, NodeNumber(ast::NONE_NODE), s)
+        end(src, toks, tree, NodeNumber(ast::NONE_NODE), on)
     }
 }
 
@@ -53,4 +53,19 @@ fn end(src: &[u8], toks: &[u32], tree: &mut [u32], first: NodeNumber, s: State) 
     } else {
         Parsed::Refused(14, s)
     }
+}
+
+// The tree of a script's tokens: Program, opened once, with room for 64 E and Block.
+pub fn program(src: &[u8], toks: &[u32], tree: &mut [u32]) -> Parsed
+    requires { ⌜ Tokens (now src) (now toks) ⌝ }
+    requires { ⌜ 16 * eofAt (now toks) + 16 ≤ length (now tree) ⌝ }
+    ensures { λ r. ⌜ Rules (now (src .entry)) (now (toks .entry)) depth Program a-node start (now (tree .entry)) r (now (tree .exit)) ⌝ }
+{
+    let s = State {
+        at: TokenNumber(0),
+        nodes: 0,
+        opened: 0,
+        used: 0,
+    };
+    rule_program(src, toks, tree, DEPTH, s)
 }

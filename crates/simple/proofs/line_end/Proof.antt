@@ -1,6 +1,6 @@
 -- `simple::line_end` meets its contract: Newline or the end.
 -- Assumes nothing.
-use Rattle.simple.proofs.Laws.{see-end, see-no, tok-end}
+use Rattle.joint.proofs.Seen.{see-end, see-no, tok-end}
 use Rattle.joint.proofs.Chain.{or-first, or-next}
 use Rattle.leaves.proofs.Tests.{coded, not-first}
 use Rattle.leaves.proofs.Tokens.{took}

@@ -1,6 +1,6 @@
 -- `simple::simples` meets its contract: the statements of one line.
 -- Assumes nothing.
-use Rattle.simple.proofs.Laws.{came-rule, pays-simple}
+use Rattle.joint.proofs.Counts.{came-rule, pays-simple}
 use Rattle.joint.proofs.Loops.{ready-of}
 use Rattle.joint.proofs.Ends.{one-then}
 use Rattle.joint.proofs.Chain.{called, not-called, part-then, part-stop}

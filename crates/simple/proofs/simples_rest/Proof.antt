@@ -1,7 +1,7 @@
 -- `simple::simples_rest` meets its contract: after the first Simple.
 -- Assumes nothing.
 use Rattle.simple.proofs.Low.{low-simples}
-use Rattle.simple.proofs.Laws.{came-rule, came-node, pays-simple}
+use Rattle.joint.proofs.Counts.{came-rule, came-node, pays-simple}
 use Rattle.joint.proofs.Loops.{Listing, begin-list, ready-of}
 use Rattle.joint.proofs.Ends.{one-then, changed-then}
 use Rattle.joint.proofs.Chain.{called, part-then, part-stop, list-on, list-shut, list-end}

@@ -2,7 +2,7 @@
 -- Assumes nothing.
 use Rattle.simple.proofs.Newest.{newest-wrote, newest-refused}
 use Rattle.simple.proofs.Low.{modest-t, some-t}
-use Rattle.simple.proofs.Laws.{came-fresh}
+use Rattle.joint.proofs.Counts.{came-fresh}
 use Rattle.joint.proofs.Ends.{act-wrote}
 use Rattle.joint.proofs.Chain.{part-then, part-stop}
 use native.Mathlib.Omega.{arith}

@@ -8,7 +8,7 @@ use Rattle.pyhyeon.proofs.Meter.{owed}
 use Rattle.pyhyeon.proofs.Held.{Fit, Held}
 use Rattle.joint.proofs.Chain.{part-then, part-stop}
 use Rattle.joint.proofs.Ends.{act-wrote}
-use Rattle.simple.proofs.Laws.{passed-part}
+use Rattle.joint.proofs.Counts.{passed-part}
 use Rattle.simple.proofs.Newest.{newest-wrote, newest-refused}
 use Rattle.stmt.proofs.Classes.{modest-dedent}
 use borrow.Author.Needs.{needs}

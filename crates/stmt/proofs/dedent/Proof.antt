@@ -5,7 +5,7 @@ use mathlib.Core.List.{[], _∷_}
 use Rattle.token.specs.Code as code
 use Rattle.leaves.proofs.Tests.{learnt}
 use Rattle.leaves.proofs.Tokens.{took}
-use Rattle.simple.proofs.Laws.{tok-end, tok-no}
+use Rattle.joint.proofs.Seen.{tok-end, tok-no}
 use native.Mathlib.Omega.{arith}
 use borrow.Author.Needs.{needs}
 use Rattle.stmt.proofs.dedent.Statement.{statement}

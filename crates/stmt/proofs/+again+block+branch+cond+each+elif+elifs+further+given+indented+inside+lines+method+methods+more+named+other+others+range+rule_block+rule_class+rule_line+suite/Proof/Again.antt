@@ -4,7 +4,7 @@ use Rattle.joint.proofs.Loops.{ready-of}
 use Rattle.joint.proofs.Ends.{act-wrote}
 use Rattle.joint.proofs.Chain.{part-then, part-stop}
 use Rattle.joint.proofs.Bounds.{after-call, spares-e}
-use Rattle.simple.proofs.Laws.{came-call, pays-block}
+use Rattle.joint.proofs.Counts.{came-call, pays-block}
 use Rattle.simple.proofs.Newest.{newest-wrote, newest-refused}
 use Rattle.pyhyeon.specs.Tables.{first, rank}
 use mathlib.Core.Path.{refl}

@@ -4,7 +4,7 @@ use Rattle.stmt.proofs.Branches.{modest-elifs, modest-else}
 use Rattle.joint.proofs.Loops.{ready-of}
 use Rattle.joint.proofs.Ends.{act-wrote}
 use Rattle.joint.proofs.Chain.{part-then, part-stop}
-use Rattle.simple.proofs.Laws.{passed-start}
+use Rattle.joint.proofs.Counts.{passed-start}
 use Rattle.simple.proofs.Newest.{newest-wrote, newest-refused}
 use mathlib.Core.List.{[]}
 use borrow.Author.Needs.{needs}

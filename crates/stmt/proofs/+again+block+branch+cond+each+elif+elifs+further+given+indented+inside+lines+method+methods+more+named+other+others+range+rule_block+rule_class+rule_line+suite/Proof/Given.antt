@@ -10,7 +10,7 @@ use Rattle.joint.proofs.Bounds.{after-list}
 use Rattle.joint.proofs.Chain.{tok-then, tok-not, part-then, part-stop}
 use Rattle.joint.proofs.Ends.{act-wrote}
 use Rattle.joint.proofs.Loops.{ready-of}
-use Rattle.simple.proofs.Laws.{came-call, pays-block}
+use Rattle.joint.proofs.Counts.{came-call, pays-block}
 use Rattle.simple.proofs.Newest.{newest-wrote, newest-refused}
 use Rattle.expr.proofs.Low.{modest-parameters}
 use borrow.Author.Needs.{needs}

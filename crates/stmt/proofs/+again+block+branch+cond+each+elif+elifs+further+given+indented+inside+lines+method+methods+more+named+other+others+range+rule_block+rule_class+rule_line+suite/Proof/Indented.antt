@@ -7,7 +7,7 @@ use Rattle.leaves.proofs.Tests.{learnt}
 use Rattle.leaves.proofs.Tokens.{took}
 use Rattle.joint.proofs.Chain.{tok-then, tok-not, part-then, part-stop}
 use Rattle.joint.proofs.Loops.{ready-of}
-use Rattle.simple.proofs.Laws.{passed-start}
+use Rattle.joint.proofs.Counts.{passed-start}
 use Rattle.stmt.proofs.Blocks.{modest-inner}
 use borrow.Author.Needs.{needs}
 use native.Mathlib.Omega.{arith}

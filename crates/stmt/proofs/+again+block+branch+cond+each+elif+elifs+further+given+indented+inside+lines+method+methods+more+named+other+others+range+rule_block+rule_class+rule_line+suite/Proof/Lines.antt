@@ -10,7 +10,7 @@ use Rattle.leaves.proofs.Tokens.{before-eof}
 use Rattle.joint.proofs.Chain.{called, no-call, part-then, part-stop}
 use Rattle.joint.proofs.Loops.{ready-of}
 use Rattle.joint.proofs.Passing.{newlines-pass, run-text}
-use Rattle.simple.proofs.Laws.{came-rule, came-growing, pays-line}
+use Rattle.joint.proofs.Counts.{came-rule, came-growing, pays-line}
 use borrow.Author.Needs.{needs}
 use native.Mathlib.Omega.{arith}
 use Prim.Native.Nat.{ℕ}

@@ -8,7 +8,7 @@ use Rattle.leaves.proofs.Tokens.{took}
 use Rattle.joint.proofs.Chain.{tok-then, tok-not, part-then, part-stop}
 use Rattle.joint.proofs.Ends.{one-then}
 use Rattle.joint.proofs.Loops.{ready-of}
-use Rattle.simple.proofs.Laws.{passed-start, passed-node}
+use Rattle.joint.proofs.Counts.{passed-start, passed-node}
 use Rattle.simple.proofs.Newest.{newest-refused}
 use Rattle.stmt.proofs.Classes.{modest-method}
 use borrow.Author.Needs.{needs}

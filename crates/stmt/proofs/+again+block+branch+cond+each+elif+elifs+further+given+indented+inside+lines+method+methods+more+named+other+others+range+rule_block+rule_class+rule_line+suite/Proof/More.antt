@@ -16,7 +16,7 @@ use Rattle.joint.proofs.Chain.{called, part-then, part-stop, many-on, many-end}
 use Rattle.joint.proofs.Ends.{changed-then, list-last}
 use Rattle.joint.proofs.Loops.{Listing, begin-list, ready-of}
 use Rattle.joint.proofs.Passing.{newlines-pass, run-text}
-use Rattle.simple.proofs.Laws.{came-rule, came-growing, pays-line}
+use Rattle.joint.proofs.Counts.{came-rule, came-growing, pays-line}
 use Rattle.stmt.proofs.Blocks.{further, low-lines}
 use borrow.Author.Needs.{needs}
 use native.Mathlib.Omega.{arith}

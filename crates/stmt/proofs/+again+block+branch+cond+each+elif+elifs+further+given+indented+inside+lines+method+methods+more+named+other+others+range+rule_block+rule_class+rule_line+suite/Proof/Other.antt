@@ -3,7 +3,7 @@
 use Rattle.joint.proofs.Loops.{ready-of}
 use Rattle.joint.proofs.Ends.{tok-mark, wrote-then, one-then, list-last, none-last}
 use Rattle.joint.proofs.Chain.{part-then, part-stop, or-first, or-next}
-use Rattle.simple.proofs.Laws.{came-call, pays-block}
+use Rattle.joint.proofs.Counts.{came-call, pays-block}
 use Rattle.leaves.proofs.Tokens.{took}
 use Rattle.leaves.proofs.Tests.{learnt}
 use Rattle.pyhyeon.specs.Tables.{first, rank}

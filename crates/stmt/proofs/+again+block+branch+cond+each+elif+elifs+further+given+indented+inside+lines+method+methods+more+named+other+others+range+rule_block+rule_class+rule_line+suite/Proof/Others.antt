@@ -9,7 +9,7 @@ use Rattle.leaves.proofs.Tokens.{before-eof}
 use Rattle.joint.proofs.Chain.{part-then, part-stop, many-on, many-end}
 use Rattle.joint.proofs.Ends.{one-then, changed-then, done-then}
 use Rattle.joint.proofs.Loops.{Going, begin, ready-of}
-use Rattle.simple.proofs.Laws.{came-start, came-node}
+use Rattle.joint.proofs.Counts.{came-start, came-node}
 use Rattle.simple.proofs.Newest.{newest-refused}
 use Rattle.stmt.proofs.Classes.{low-methods, taking-method}
 use Prim.Native.Nat.{_-_}

@@ -4,7 +4,7 @@ use mathlib.Core.List.{[], _∷_}
 use Rattle.token.specs.Code as code
 use Rattle.leaves.proofs.Tests.{learnt}
 use Rattle.joint.proofs.Ends.{act-wrote}
-use Rattle.simple.proofs.Laws.{see-then, see-not}
+use Rattle.joint.proofs.Seen.{see-then, see-not}
 use native.Mathlib.Omega.{arith}
 use borrow.Author.Needs.{needs}
 use Rattle.stmt.proofs.whole.end.Statement.{statement}
