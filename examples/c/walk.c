@@ -123,6 +123,29 @@ struct at {
     uint32_t node, depth;
 };
 
+/* Pushes the nodes that a node holds, the first of them last, and returns the new top. */
+static size_t push_parts(const uint32_t *tree, const uint32_t *node, uint32_t depth, struct at *stack, size_t top)
+{
+    const unsigned char *fields = kinds[node[TARBUCKET_NODE_KIND]].fields;
+    size_t from = top, to;
+    int i;
+
+    for (i = 0; i < 4; i++) {
+        uint32_t k = fields[i] < NODE ? TARBUCKET_NONE : node[TARBUCKET_NODE_P + i];
+        while (k != TARBUCKET_NONE) {
+            stack[top].node = k;
+            stack[top++].depth = depth;
+            k = fields[i] == LIST ? TARBUCKET_NODE(tree, k)[TARBUCKET_NODE_NEXT] : TARBUCKET_NONE;
+        }
+    }
+    for (to = top; from + 1 < to; from++) {
+        struct at kept = stack[from];
+        stack[from] = stack[--to];
+        stack[to] = kept;
+    }
+    return top;
+}
+
 /* From the root down, with a stack of its own: a sum of many terms is as deep as it is long. A node is pushed at most twice, the middle of a chain of
  * comparisons by the two that hold it. */
 static void walk(const uint32_t *tree, const uint8_t *src, const uint8_t *text)
@@ -130,16 +153,13 @@ static void walk(const uint32_t *tree, const uint8_t *src, const uint8_t *text)
     uint32_t nodes = tree[TARBUCKET_HEADER_NODES];
     struct at *stack = take(2 * (size_t)nodes, sizeof *stack);
     unsigned char *seen = take(nodes, 1);
-    size_t top = 0;
+    size_t top = 1;
 
-    stack[top].node = tree[TARBUCKET_HEADER_ROOT];
-    stack[top++].depth = 0;
+    stack[0].node = tree[TARBUCKET_HEADER_ROOT];
+    stack[0].depth = 0;
     while (top) {
         struct at here = stack[--top];
         const uint32_t *node = TARBUCKET_NODE(tree, here.node);
-        const unsigned char *fields = kinds[node[TARBUCKET_NODE_KIND]].fields;
-        size_t from = top, to;
-        int i;
 
         if (seen[here.node])
             continue;
@@ -148,21 +168,7 @@ static void walk(const uint32_t *tree, const uint8_t *src, const uint8_t *text)
                kinds[node[TARBUCKET_NODE_KIND]].name, node[TARBUCKET_NODE_START], node[TARBUCKET_NODE_END]);
         print_value(node, src, text);
         putchar('\n');
-        for (i = 0; i < 4; i++) {
-            uint32_t k = node[TARBUCKET_NODE_P + i];
-            if (fields[i] < NODE)
-                continue;
-            while (k != TARBUCKET_NONE) {
-                stack[top].node = k;
-                stack[top++].depth = here.depth + 1;
-                k = fields[i] == LIST ? TARBUCKET_NODE(tree, k)[TARBUCKET_NODE_NEXT] : TARBUCKET_NONE;
-            }
-        }
-        for (to = top; from + 1 < to; from++) {
-            struct at kept = stack[from];
-            stack[from] = stack[--to];
-            stack[to] = kept;
-        }
+        top = push_parts(tree, node, here.depth + 1, stack, top);
     }
     free(seen);
     free(stack);
