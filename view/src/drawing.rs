@@ -107,9 +107,7 @@ fn describe<'a>(node: &Node<'a>) -> (String, Vec<Part<'a>>) {
         Shape::String(bytes) => (string(bytes), vec![]),
         Shape::Unary { operator, operand } => (format!("Unary {}", operator.symbol()), vec![One("", operand)]),
         Shape::Binary { operator, left, right } => (format!("Binary {}", operator.symbol()), vec![One("", left), One("", right)]),
-        Shape::Call { callee, arguments } => {
-            (kind.into(), std::iter::once(One("of", callee)).chain(each("argument", arguments)).collect())
-        }
+        Shape::Call { callee, arguments } => (kind.into(), std::iter::once(One("of", callee)).chain(each("argument", arguments)).collect()),
         Shape::Attribute { object, name } => (format!("Attribute .{}", plain(name)), vec![One("of", object)]),
         Shape::Index { object, index } => (kind.into(), vec![One("of", object), One("at", index)]),
         Shape::List { members } | Shape::Tuple { members } | Shape::Set { members } | Shape::TreeSet { members } => {

@@ -165,7 +165,9 @@ fn hint(before: &[u8], token: &[u8]) -> String {
             let (sign, digits) = (*sign as char, plain(&token[1..]));
             format!(": a sign right before digits belongs to the number, so write `{sign} {digits}` with a space.")
         }
-        _ if token[0].is_ascii_digit() && signed_decimal(before) => ": a number with a dot takes no sign right before it, so write a space between.".to_string(),
+        _ if token[0].is_ascii_digit() && signed_decimal(before) => {
+            ": a number with a dot takes no sign right before it, so write a space between.".to_string()
+        }
         _ => ".".to_string(),
     }
 }

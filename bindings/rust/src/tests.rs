@@ -122,7 +122,7 @@ fn words_that_are_no_tree() {
             words[i] = other;
             if let Ok(tree) = Tree::new(src, &[], words) {
                 let _ = tree.listing();
-                tree.walk().for_each(|(_, n)| drop(n.shape()));
+                tree.walk().for_each(|(_, n)| assert!(n.span().end <= src.len() && matches!(n.shape(), _)));
             }
         }
         words[i] = kept;
