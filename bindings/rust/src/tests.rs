@@ -1,0 +1,130 @@
+use crate::*;
+
+fn number_and_place(src: &[u8]) -> (u32, usize) {
+    match Reader::new().read(src) {
+        Ok(_) => (0, 0),
+        Err(e) => (e.number(), e.place()),
+    }
+}
+
+#[test]
+fn scripts_of_the_definition() {
+    let cases: [(&[u8], u32, usize); 18] = [
+        (b"", 0, 0),
+        (b"a-1", 14, 1),
+        (b"-1.5", 14, 3),
+        (b"1.e5", 0, 0),
+        (b"()", 14, 2),
+        (b"())", 0, 0),
+        (b"not a == b", 0, 0),
+        (b"if a:\n  b", 14, 9),
+        (b"if a:\n  b\n", 0, 0),
+        (b"9223372036854775808", 10, 0),
+        (b"-9223372036854775808", 0, 0),
+        (b"\ta", 6, 0),
+        (b"if a:\n   b\n", 7, 6),
+        (b"if a:\n  b\n c\n", 8, 10),
+        (b"1.0e24", 11, 0),
+        (b"a\xc3\xa9", 12, 1),
+        (b"\xff", 5, 0),
+        (b"$", 9, 0),
+    ];
+    for (src, number, place) in cases {
+        assert_eq!(number_and_place(src), (number, place), "{}", String::from_utf8_lossy(src));
+    }
+    let mut deep = vec![b'('; 64];
+    deep.push(b'a');
+    deep.extend([b')'; 64]);
+    assert_eq!(number_and_place(&deep), (13, 64));
+    assert_eq!(number_and_place(&deep[1..128]), (0, 0));
+    assert_eq!(number_and_place(&[b' '; LONGEST + 1]), (1, 0));
+}
+
+#[test]
+fn slices_of_any_length() {
+    let src = b"a = 1\n";
+    let (mut tokens, mut text, mut tree) = ([7u32; 40], [7u8; 20], [7u32; 200]);
+    assert_eq!(parse_source(src, &mut tokens[..20], &mut text, &mut tree), Err(Error::TokensTooSmall));
+    assert_eq!(parse_source(src, &mut tokens, &mut text[..5], &mut tree), Err(Error::TextTooSmall));
+    assert_eq!(parse_source(src, &mut tokens, &mut text, &mut tree[..111]), Err(Error::TreeTooSmall));
+    assert!(tokens.iter().all(|&w| w == 7) && text.iter().all(|&b| b == 7) && tree.iter().all(|&w| w == 7));
+    let counts = parse_source(src, &mut tokens, &mut text, &mut tree).unwrap();
+    assert_eq!(counts, Counts { tokens: 4, nodes: 4, text: 0, openings: tree[6] });
+    assert!(tokens[21..].iter().all(|&w| w == 7) && text[6..].iter().all(|&b| b == 7) && tree[112..].iter().all(|&w| w == 7));
+    assert!(text[..6].iter().all(|&b| b == 0) && tree[8 + 8 * 4..112].iter().all(|&w| w == 0));
+    assert_eq!(parse_source(b"", &mut [0; 3], &mut [], &mut [0; 16]).map(|c| c.nodes), Ok(1));
+}
+
+#[test]
+fn literals_and_names() {
+    let mut reader = Reader::new();
+    let tree = reader.read(b"x = [True, -5, 2.5, 'a\\n', None, y.z]\n").unwrap();
+    let line = tree.root().children().next().unwrap();
+    let Shape::Assign { target, value } = line.shape() else { panic!() };
+    assert!(matches!(target.shape(), Shape::Variable { name: b"x" }));
+    let Shape::List { members } = value.shape() else { panic!() };
+    let shapes: Vec<Shape> = members.map(|m| m.shape()).collect();
+    assert!(matches!(shapes[0], Shape::Bool(true)));
+    assert!(matches!(shapes[1], Shape::Int(-5)));
+    assert!(matches!(shapes[2], Shape::Float(x) if x == 2.5));
+    assert!(matches!(shapes[3], Shape::String(b"a\n")));
+    assert!(matches!(shapes[4], Shape::None));
+    let Shape::Attribute { object, name } = shapes[5] else { panic!() };
+    assert!(name == b"z" && matches!(object.shape(), Shape::Variable { name: b"y" }));
+}
+
+#[test]
+fn a_walk_meets_each_node_once() {
+    let mut reader = Reader::new();
+    // each level holds its middle twice: a walk along all fields would take 2 to the 30th steps
+    let src = format!("{}a{}\n", "a<(".repeat(30), ")<a".repeat(30));
+    let tree = reader.read(src.as_bytes()).unwrap();
+    assert_eq!(tree.walk().count(), tree.len());
+    let deep = format!("a{}\n", "+a".repeat(20000));
+    let tree = reader.read(deep.as_bytes()).unwrap();
+    assert_eq!(tree.walk().count(), tree.len());
+    assert_eq!(tree.walk().map(|(depth, _)| depth).max(), Some(20002));
+}
+
+#[test]
+fn the_listing_of_the_definition() {
+    let mut reader = Reader::new();
+    let expected = "1 8 6 0 8 7 19 6\n0 23 0 1 - 0 1 0 0\n1 23 2 3 - 2 3 0 0\n2 25 0 3 - 9 0 1 0\n3 23 4 5 - 4 5 0 0\n4 25 2 5 - 9 1 3 0\n\
+                    5 25 0 5 - 13 2 4 0\n6 12 0 5 - 5 0 0 0\n7 1 0 6 - 6 0 0 0\n";
+    assert_eq!(listing(&reader.read(b"a<b<c\n")), expected);
+    assert_eq!(listing(&reader.read(b"a-1")), "no 14 1\n");
+}
+
+#[test]
+fn tokens_of_the_last_source() {
+    let mut reader = Reader::new();
+    reader.read(b"a = 1\n").unwrap();
+    assert_eq!(reader.tokens().collect::<Vec<_>>(), [(21, 0, 1), (35, 2, 3), (19, 4, 5), (48, 5, 6), (49, 6, 6)]);
+    reader.read(b";").unwrap_err();
+    assert_eq!(reader.tokens().count(), 0);
+    reader.read(b"a = 1\n").unwrap();
+    reader.read(b"\xff").unwrap_err();
+    assert_eq!(reader.tokens().count(), 0);
+    reader.read(b"a\n").unwrap();
+    assert_eq!(reader.tokens().last(), Some((49, 2, 2)));
+}
+
+#[test]
+fn words_that_are_no_tree() {
+    let src = b"a\n";
+    let (mut tokens, mut text, mut tree) = ([0u32; 9], [0u8; 2], [0u32; 48]);
+    let counts = parse_source(src, &mut tokens, &mut text, &mut tree).unwrap();
+    let words = &mut tree[..8 + 8 * counts.nodes as usize];
+    assert!(Tree::new(src, &[], words).is_ok());
+    for i in 0..words.len() {
+        let kept = words[i];
+        for other in [kept.wrapping_add(1), kept.wrapping_sub(1), NONE, 1000] {
+            words[i] = other;
+            if let Ok(tree) = Tree::new(src, &[], words) {
+                let _ = tree.listing();
+                tree.walk().for_each(|(_, n)| assert!(n.span().end <= src.len() && matches!(n.shape(), _)));
+            }
+        }
+        words[i] = kept;
+    }
+}

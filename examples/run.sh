@@ -1,0 +1,60 @@
+#!/bin/sh
+# Builds the static library, the program, and the examples in C and Rust; runs all on examples/kiosk.pyh and on small scripts. The examples' listings must
+# be the program's output, and the two walks the same, byte for byte.
+#
+#     examples/run.sh
+#
+# It wants rt, cc (gcc or clang) and cargo, and no registry.
+set -eu
+cd "$(dirname "$0")/.."
+rt staticlib ffi >/dev/null
+rt check tarbucket >/dev/null
+work=target/examples
+rm -rf "$work"
+mkdir -p "$work"
+"${CC:-cc}" -std=c99 -Wall -Wextra -pedantic -O2 -Iinclude examples/c/walk.c target/staticlib/libffi.a -o "$work/walk_c"
+cargo build --quiet --offline --release --manifest-path bindings/rust/Cargo.toml --example walk --target-dir target/cargo
+cp target/cargo/release/examples/walk "$work/walk_rust"
+
+mkdir "$work/scripts"
+scripts=$work/scripts
+cp examples/kiosk.pyh "$scripts"
+: >"$scripts/empty"
+printf 'a<b<c\n' >"$scripts/chain"
+printf 'a-1' >"$scripts/signed"
+printf -- '-1.5' >"$scripts/dot"
+printf '1.e5' >"$scripts/attribute"
+printf '()' >"$scripts/parentheses"
+printf '())' >"$scripts/tuple"
+printf 'if a:\n  b' >"$scripts/no_newline"
+printf 'if a:\n  b\nelif c:\n  d\nelse:\n  e\n' >"$scripts/branches"
+printf 'if a:\n  ' >"$scripts/spaces_only"
+printf '9223372036854775808' >"$scripts/int"
+printf -- '-9223372036854775808' >"$scripts/least_int"
+printf '\ta' >"$scripts/tab"
+printf 'if a:\n   b\n' >"$scripts/too_far"
+printf 'if a:\n  b\n c\n' >"$scripts/no_level"
+printf '$' >"$scripts/no_token"
+printf '1.0e24' >"$scripts/float"
+printf 'a\303\251' >"$scripts/letter"
+printf '\377' >"$scripts/bytes"
+printf 'x = {"a": 1.5, "b\\n": t{1, 2}, 3: lambda a, b: -a * b}; y.z(1)[0], None\n' >"$scripts/values"
+awk 'BEGIN { for (i = 0; i < 64; i++) printf "("; printf "a"; for (i = 0; i < 64; i++) printf ")" }' >"$scripts/deep"
+awk 'BEGIN { for (i = 0; i < 62; i++) printf "a<("; printf "a"; for (i = 0; i < 62; i++) printf ")<a" }' >"$scripts/shared"
+awk 'BEGIN { for (i = 0; i < 1023; i++) printf "a" }' >"$scripts/longest"
+awk 'BEGIN { for (i = 0; i < 1024; i++) printf "a" }' >"$scripts/too_long"
+
+count=0
+for script in "$scripts"/*; do
+    name=$(basename "$script")
+    target/bin/tarbucket <"$script" >"$work/$name.program"
+    for language in c rust; do
+        "$work/walk_$language" --list "$script" >"$work/$name.list_$language"
+        "$work/walk_$language" <"$script" >"$work/$name.walk_$language"
+        cmp "$work/$name.program" "$work/$name.list_$language"
+    done
+    cmp "$work/$name.walk_c" "$work/$name.walk_rust"
+    count=$((count + 1))
+done
+head -n 12 "$work/kiosk.pyh.walk_c"
+echo "examples: $count scripts, the same output from the program, C and Rust"

@@ -1,0 +1,239 @@
+/* Tarbucket: a verified reader of kiosk scripts, for C and C++.
+ *
+ * One function reads a script. It has no state, allocates nothing, and uses only the memory that is lent to it; it ends on every input of bytes.
+ *
+ *     rt staticlib ffi                          (writes target/staticlib/libffi.a, for x86-64 Linux)
+ *     cc -Iinclude walk.c target/staticlib/libffi.a -o walk
+ *
+ * n is the length of the source in bytes, a word is 32 bits. "None" is TARBUCKET_NONE where a node number is held.
+ */
+#ifndef TARBUCKET_H
+#define TARBUCKET_H
+
+#include <stddef.h>
+#include <stdint.h>
+
+#ifdef __cplusplus
+extern "C" {
+#endif
+
+/* The longest source that is read, in bytes. */
+#define TARBUCKET_LONGEST 65536u
+
+/* No node, where a field holds a node number. */
+#define TARBUCKET_NONE 4294967295u
+
+/* Returned where `answer` has fewer than six words. */
+#define TARBUCKET_NO_ANSWER 4294967295u
+
+/* The areas of a source of n bytes. A slice may be longer: the words behind its area are never touched. */
+#define TARBUCKET_TOKENS_WORDS(n) (3 * ((size_t)(n) + 1))
+#define TARBUCKET_TEXT_BYTES(n) ((size_t)(n))
+#define TARBUCKET_TREE_WORDS(n) (16 * (size_t)(n) + 16)
+
+/* The words of an answer. */
+enum {
+    TARBUCKET_ANSWER_NUMBER = 0,   /* 0: accepted; 1 to 14: the refusal, see below */
+    TARBUCKET_ANSWER_PLACE = 1,    /* the byte where it is refused; 0 where it is accepted */
+    TARBUCKET_ANSWER_TOKENS = 2,   /* T, the tokens without Eof; 0 in refusals 1 to 12 */
+    TARBUCKET_ANSWER_NODES = 3,    /* N, the nodes of the tree; 0 in a refusal */
+    TARBUCKET_ANSWER_TEXT = 4,     /* the bytes of decoded strings; 0 in a refusal */
+    TARBUCKET_ANSWER_OPENINGS = 5, /* the rules opened; 0 in refusals 1 to 12 */
+    TARBUCKET_ANSWER_WORDS = 6
+};
+
+/* The numbers. The first question that is answered by no decides. */
+enum {
+    TARBUCKET_ACCEPTED = 0,
+    TARBUCKET_TOO_LONG = 1,         /* more than 65,536 bytes; place 0 */
+    TARBUCKET_TOKENS_TOO_SMALL = 2, /* the token slice is shorter than its area; place 0 */
+    TARBUCKET_TEXT_TOO_SMALL = 3,   /* the text slice is; place 0 */
+    TARBUCKET_TREE_TOO_SMALL = 4,   /* the tree slice is; place 0 */
+    TARBUCKET_NOT_UTF8 = 5,         /* at the first byte of the bad sequence */
+    TARBUCKET_TAB = 6,              /* a tab in the indentation, at the tab */
+    TARBUCKET_TOO_FAR = 7,          /* indented by other than exactly 2 more, where the counting began */
+    TARBUCKET_NO_LEVEL = 8,         /* back on no open level, where the counting began */
+    TARBUCKET_NO_TOKEN = 9,         /* no token matches, at its start (an open string, too) */
+    TARBUCKET_INT_RANGE = 10,       /* an Int below -2^63 or above 2^63 - 1, at its start */
+    TARBUCKET_FLOAT_RANGE = 11,     /* a Float that is not admitted, at its start */
+    TARBUCKET_NOT_ASCII = 12,       /* a byte over 127 where a token would start */
+    TARBUCKET_TOO_DEEP = 13,        /* more than 64 expressions and blocks open at once, at the token */
+    TARBUCKET_MISFIT = 14           /* a token that does not fit the grammar, at its start; Eof is at n */
+};
+
+/* A token has three words in `tokens`: code, start, end (bytes of the source). Token t stands at word 3 t; token T is Eof. */
+enum {
+    TARBUCKET_TOKEN_CODE = 0,
+    TARBUCKET_TOKEN_START = 1,
+    TARBUCKET_TOKEN_END = 2,
+    TARBUCKET_TOKEN_WORDS = 3
+};
+
+/* The codes of the tokens. */
+enum {
+    TARBUCKET_TOKEN_IF = 1,
+    TARBUCKET_TOKEN_ELIF = 2,
+    TARBUCKET_TOKEN_ELSE = 3,
+    TARBUCKET_TOKEN_WHILE = 4,
+    TARBUCKET_TOKEN_FOR = 5,
+    TARBUCKET_TOKEN_IN = 6,
+    TARBUCKET_TOKEN_DEF = 7,
+    TARBUCKET_TOKEN_RETURN = 8,
+    TARBUCKET_TOKEN_AND = 9,
+    TARBUCKET_TOKEN_OR = 10,
+    TARBUCKET_TOKEN_NOT = 11,
+    TARBUCKET_TOKEN_CLASS = 12,
+    TARBUCKET_TOKEN_BREAK = 13,
+    TARBUCKET_TOKEN_CONTINUE = 14,
+    TARBUCKET_TOKEN_PASS = 15,
+    TARBUCKET_TOKEN_LAMBDA = 16,
+    TARBUCKET_TOKEN_NONE = 17,
+    TARBUCKET_TOKEN_BOOL = 18,          /* True or False */
+    TARBUCKET_TOKEN_INT = 19,           /* with its sign, if one stands right before the digits */
+    TARBUCKET_TOKEN_STRING = 20,        /* with its quotes */
+    TARBUCKET_TOKEN_IDENTIFIER = 21,
+    TARBUCKET_TOKEN_FLOAT = 22,
+    TARBUCKET_TOKEN_PLUS = 23,          /* +  */
+    TARBUCKET_TOKEN_MINUS = 24,         /* -  */
+    TARBUCKET_TOKEN_STAR = 25,          /* *  */
+    TARBUCKET_TOKEN_SLASH_SLASH = 26,   /* two slashes */
+    TARBUCKET_TOKEN_SLASH = 27,         /* one slash */
+    TARBUCKET_TOKEN_PERCENT = 28,       /* %  */
+    TARBUCKET_TOKEN_EQUAL_EQUAL = 29,   /* == */
+    TARBUCKET_TOKEN_NOT_EQUAL = 30,     /* != */
+    TARBUCKET_TOKEN_LESS = 31,          /* <  */
+    TARBUCKET_TOKEN_LESS_EQUAL = 32,    /* <= */
+    TARBUCKET_TOKEN_GREATER = 33,       /* >  */
+    TARBUCKET_TOKEN_GREATER_EQUAL = 34, /* >= */
+    TARBUCKET_TOKEN_EQUAL = 35,         /* =  */
+    TARBUCKET_TOKEN_LPAREN = 36,        /* (  */
+    TARBUCKET_TOKEN_RPAREN = 37,        /* )  */
+    TARBUCKET_TOKEN_LBRACKET = 38,      /* [  */
+    TARBUCKET_TOKEN_RBRACKET = 39,      /* ]  */
+    TARBUCKET_TOKEN_LBRACE = 40,        /* {  */
+    TARBUCKET_TOKEN_RBRACE = 41,        /* }  */
+    TARBUCKET_TOKEN_COLON = 42,         /* :  */
+    TARBUCKET_TOKEN_COMMA = 43,         /* ,  */
+    TARBUCKET_TOKEN_SEMICOLON = 44,     /* ;  */
+    TARBUCKET_TOKEN_DOT = 45,           /* .  */
+    TARBUCKET_TOKEN_INDENT = 46,        /* spans the line's spaces */
+    TARBUCKET_TOKEN_DEDENT = 47,        /* spans the line's spaces; empty at n where the source ends */
+    TARBUCKET_TOKEN_NEWLINE = 48,       /* a line feed */
+    TARBUCKET_TOKEN_EOF = 49            /* empty, at n */
+};
+
+/* The header: the first eight words of `tree`. */
+enum {
+    TARBUCKET_HEADER_VERSION = 0,  /* 1 */
+    TARBUCKET_HEADER_NODES = 1,    /* N */
+    TARBUCKET_HEADER_TOKENS = 2,   /* T */
+    TARBUCKET_HEADER_TEXT = 3,     /* the bytes of text */
+    TARBUCKET_HEADER_OFFSET = 4,   /* the word where the nodes begin: 8 */
+    TARBUCKET_HEADER_ROOT = 5,     /* the number of the root, a Program: N - 1 */
+    TARBUCKET_HEADER_OPENINGS = 6, /* the rules opened */
+    TARBUCKET_HEADER_LENGTH = 7,   /* n */
+    TARBUCKET_HEADER_WORDS = 8
+};
+
+/* A node has eight words. */
+enum {
+    TARBUCKET_NODE_KIND = 0,  /* a kind, see below */
+    TARBUCKET_NODE_START = 1, /* the bytes of the source that the node spans: from here */
+    TARBUCKET_NODE_END = 2,   /* up to here, not included */
+    TARBUCKET_NODE_NEXT = 3,  /* the next member of the list that the node is in, or none */
+    TARBUCKET_NODE_P = 4,     /* four fields that go by the kind; 0 where the kind has no use for one */
+    TARBUCKET_NODE_Q = 5,
+    TARBUCKET_NODE_R = 6,
+    TARBUCKET_NODE_S = 7,
+    TARBUCKET_NODE_WORDS = 8
+};
+
+/* The eight words of node k. */
+#define TARBUCKET_NODE(tree, k) ((tree) + 8 + 8 * (size_t)(k))
+
+/* The kinds, and what p, q, r and s hold.
+ *
+ *   node   a node number
+ *   node?  a node number or none
+ *   list   the number of the first member or none; the members follow by `next`
+ *   name   two fields: where a name starts and ends in the source
+ *
+ * A field's node has a lower number than the node that holds it, and `next` a higher one. In a chain of comparisons, a<b<c, which is
+ * And(a<b, b<c), the node of b is held twice: who walks the tree by its fields comes to it twice. */
+enum {
+    TARBUCKET_PROGRAM = 1,    /* p list: the lines */
+    TARBUCKET_IF = 2,         /* p node: condition; q list: body; r list of Elif; s node?: Else */
+    TARBUCKET_WHILE = 3,      /* p node: condition; q list: body */
+    TARBUCKET_FOR = 4,        /* p q name; r node: what it goes over; s list: body */
+    TARBUCKET_DEF = 5,        /* p q name; r list of Name: parameters; s list: body */
+    TARBUCKET_RETURN = 6,     /* p node: value */
+    TARBUCKET_ASSIGN = 7,     /* p node: target; q node: value */
+    TARBUCKET_CLASS = 8,      /* p q name; r list of Method */
+    TARBUCKET_BREAK = 9,      /* no fields */
+    TARBUCKET_CONTINUE = 10,  /* no fields */
+    TARBUCKET_PASS = 11,      /* no fields */
+    TARBUCKET_EXPR = 12,      /* p node: an expression as a statement */
+    TARBUCKET_METHOD = 13,    /* as Def */
+    TARBUCKET_ELIF = 14,      /* p node: condition; q list: body */
+    TARBUCKET_ELSE = 15,      /* p list: body */
+    TARBUCKET_NAME = 16,      /* p q name: a parameter */
+    TARBUCKET_PAIR = 17,      /* p node: key; q node: value */
+    TARBUCKET_BOOL = 18,      /* p: 1 for True, 0 for False */
+    TARBUCKET_INT = 19,       /* p: low half, q: high half of 64 bits, two's complement */
+    TARBUCKET_STRING = 20,    /* p: offset, q: length of the decoded bytes in `text` */
+    TARBUCKET_FLOAT = 21,     /* p: low half, q: high half of the 64 bits of an IEEE 754 double */
+    TARBUCKET_NONE_VALUE = 22, /* no fields: None */
+    TARBUCKET_VARIABLE = 23,  /* p q name */
+    TARBUCKET_UNARY = 24,     /* p: unary operator; q node */
+    TARBUCKET_BINARY = 25,    /* p: binary operator; q node: left; r node: right */
+    TARBUCKET_CALL = 26,      /* p node: what is called; q list: arguments */
+    TARBUCKET_ATTRIBUTE = 27, /* p node: object; q r name */
+    TARBUCKET_LIST = 28,      /* p list: [a, b] */
+    TARBUCKET_DICT = 29,      /* p list of Pair: {a: b} */
+    TARBUCKET_TUPLE = 30,     /* p list: (a, b) or a, b */
+    TARBUCKET_SET = 31,       /* p list: {a, b} */
+    TARBUCKET_TREE_SET = 32,  /* p list: t{a, b} */
+    TARBUCKET_INDEX = 33,     /* p node: object; q node: index */
+    TARBUCKET_LAMBDA = 34     /* p list of Name: parameters; q node: value */
+};
+
+/* The operators of a Unary. */
+enum {
+    TARBUCKET_OP_NOT = 1,
+    TARBUCKET_OP_NEGATE = 2,
+    TARBUCKET_OP_POS = 3
+};
+
+/* The operators of a Binary. */
+enum {
+    TARBUCKET_OP_ADD = 1,
+    TARBUCKET_OP_SUBTRACT = 2,
+    TARBUCKET_OP_MULTIPLY = 3,
+    TARBUCKET_OP_DIVIDE = 4,
+    TARBUCKET_OP_FLOOR_DIVIDE = 5,
+    TARBUCKET_OP_MODULO = 6,
+    TARBUCKET_OP_EQUAL = 7,
+    TARBUCKET_OP_NOT_EQUAL = 8,
+    TARBUCKET_OP_LESS = 9,
+    TARBUCKET_OP_LESS_EQUAL = 10,
+    TARBUCKET_OP_GREATER = 11,
+    TARBUCKET_OP_GREATER_EQUAL = 12,
+    TARBUCKET_OP_AND = 13,
+    TARBUCKET_OP_OR = 14
+};
+
+/* Reads a source. Writes the six words of the answer and returns the first, the number.
+ *
+ * Each length counts the elements behind its pointer. No pointer may be null, also where its length is 0; the slices must not overlap.
+ * Accepted: `tokens`, `text` and `tree` hold T + 1 tokens, the decoded strings in the order of their tokens, and the header with N nodes; the rest of
+ * each area is 0. Refused by 1 to 5: the three are as they were. Refused by 6 to 14: the three areas are 0. Words behind an area, and words of `answer`
+ * behind the sixth, are as they were. Where `answer_len` is below 6, nothing is written anywhere and TARBUCKET_NO_ANSWER is returned. */
+uint32_t tarbucket_parse_source(const uint8_t *src, size_t src_len, uint32_t *tokens, size_t tokens_len,
+                                uint8_t *text, size_t text_len, uint32_t *tree, size_t tree_len,
+                                uint32_t *answer, size_t answer_len);
+
+#ifdef __cplusplus
+}
+#endif
+
+#endif
