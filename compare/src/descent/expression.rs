@@ -115,7 +115,7 @@ impl Descent<'_> {
     }
 
     /// Opens a rule of members that group left.
-    fn grouped(&mut self, op: fn(Kind) -> Option<BinaryOp>, member: fn(&mut Self) -> Read<Expr>) -> Read<Expr> {
+    fn grouped(&mut self, op: impl Fn(Kind) -> Option<BinaryOp>, member: impl Fn(&mut Self) -> Read<Expr>) -> Read<Expr> {
         self.open(begins_operation)?;
         let mut left = member(self)?;
         while let Some(op) = op(self.kind()) {
@@ -254,7 +254,7 @@ impl Descent<'_> {
     }
 
     /// The rest of a list in braces, whose first member is read.
-    fn behind<T>(&mut self, first: T, member: fn(&mut Self) -> Read<T>) -> Read<Vec<T>> {
+    fn behind<T>(&mut self, first: T, member: impl Fn(&mut Self) -> Read<T>) -> Read<Vec<T>> {
         let mut members = vec![first];
         if self.take_if(Kind::Comma) {
             members.append(&mut self.members(begins_expression, member)?);

@@ -77,7 +77,7 @@ impl Descent<'_> {
     }
 
     /// Opens a rule, if the next token can begin it.
-    fn open(&mut self, begins: fn(Kind) -> bool) -> Read<()> {
+    fn open(&mut self, begins: impl Fn(Kind) -> bool) -> Read<()> {
         if !begins(self.kind()) {
             return Err(self.refused(14));
         }
@@ -86,8 +86,8 @@ impl Descent<'_> {
     }
 
     /// Opens E or Block: these count towards the depth too, and an opening that 13 refuses isn't counted.
-    fn open_deeper(&mut self, begins: fn(Kind) -> bool) -> Read<()> {
-        if begins(self.kind()) && self.depth == DEPTH {
+    fn open_deeper(&mut self, begins: impl Fn(Kind) -> bool) -> Read<()> {
+        if self.depth == DEPTH && begins(self.kind()) {
             return Err(self.refused(13));
         }
         self.open(begins)?;
@@ -101,7 +101,7 @@ impl Descent<'_> {
     }
 
     /// Members with commas between, one trailing allowed; none where the next token can't begin one.
-    fn members<T>(&mut self, begins: fn(Kind) -> bool, member: fn(&mut Self) -> Read<T>) -> Read<Vec<T>> {
+    fn members<T>(&mut self, begins: impl Fn(Kind) -> bool, member: impl Fn(&mut Self) -> Read<T>) -> Read<Vec<T>> {
         let mut members = Vec::new();
         while begins(self.kind()) {
             members.push(member(self)?);
