@@ -114,10 +114,13 @@ impl Descent<'_> {
 
     /// Names, each of them a node, up to `closer`.
     fn parameters(&mut self, closer: Kind) -> Read<Vec<Span>> {
-        let names = self.members(|kind| kind == Kind::Name, |reader| {
-            reader.written += 1;
-            reader.name()
-        })?;
+        let names = self.members(
+            |kind| kind == Kind::Name,
+            |reader| {
+                reader.written += 1;
+                reader.name()
+            },
+        )?;
         self.expect(closer)?;
         Ok(names)
     }

@@ -48,7 +48,10 @@ impl Figures {
     }
 
     pub fn print(&self, seconds: f64, differences: u32) {
-        println!("{:<12} {:>10} {:>12} {:>10} {:>10} {:>10} {:>9} {:>7}", "class", "inputs", "bytes", "accepted", "1-12", "13", "14", "-");
+        println!(
+            "{:<12} {:>10} {:>12} {:>10} {:>10} {:>10} {:>9} {:>7}",
+            "class", "inputs", "bytes", "accepted", "1-12", "13", "14", "-"
+        );
         let total = self.total();
         for (name, row) in CLASSES.iter().map(|class| class.name).zip(&self.rows).chain([("all", &total)]) {
             let lexical: u64 = row.numbers[1..=12].iter().sum();

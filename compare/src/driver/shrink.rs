@@ -75,7 +75,7 @@ pub fn show(sides: &mut Sides, case: &Case) {
         let [number, place, tokens, nodes, text, openings] = side.answer[..6] else { unreachable!() };
         println!("{name}: number {number}, place {place}, T {tokens}, N {nodes}, text {text}, openings {openings}");
         let areas = plain::areas(case.src.len());
-        if number == 0 && nodes as usize <= areas.2 / 8 - 1 && case.src.len() <= 200 {
+        if number == 0 && (nodes as usize) < areas.2 / 8 && case.src.len() <= 200 {
             let count = (tokens as usize + 1).min(areas.0 / 3);
             let list: Vec<String> = side.tokens.chunks(3).take(count).map(|t| format!("{} {}-{}", t[0], t[1], t[2])).collect();
             println!("  tokens: {}", list.join(", "));

@@ -9,7 +9,10 @@ use crate::token::{Kind, Token};
 use crate::words::{Record, NEXT, NONE};
 
 pub enum Verdict {
-    Accepted { nodes: Vec<Record>, text: Vec<u8> },
+    Accepted {
+        nodes: Vec<Record>,
+        text: Vec<u8>,
+    },
     Refused,
     /// More tokens were asked for than allowed: braces and tuples inside one another are read again and again.
     Spent,

@@ -6,6 +6,7 @@ use crate::sides::Case;
 use plain::LONGEST;
 
 /// What a long source is filled with.
+#[rustfmt::skip]
 const FILL: [&str; 20] = [
     " ", "\n", "a\n", "a;", "(", "a+", "- ", "not ", "a.b", "1,", "'x'\n", "#", "if a: b\n", "a<", "\u{e9}", "-", "\r", "pass\n", "{a:", "f()[a]\n",
 ];

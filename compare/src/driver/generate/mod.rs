@@ -2,6 +2,7 @@
 
 mod damage;
 mod deep;
+mod expression;
 mod limits;
 mod script;
 mod soup;
@@ -34,9 +35,11 @@ pub const CLASSES: [Class; 10] = [
 ];
 
 /// Bytes that each do something in the scanner or the UTF-8 check.
-const TELLING: &[u8] = b"ateEifnor_019.+-*/%=!<>()[]{}:,;\"'\\#@ \t\r\n\x00\x7f\x80\x8f\x90\x9f\xa0\xbf\xc1\xc2\xe0\xe1\xed\xf0\xf4\xf5";
+const TELLING: &[u8] =
+    b"ateEifnor_019.+-*/%=!<>()[]{}:,;\"'\\#@ \t\r\n\x00\x7f\x80\x8f\x90\x9f\xa0\xbf\xc1\xc2\xe0\xe1\xed\xf0\xf4\xf5";
 
 /// Pieces that each do something in the grammar.
+#[rustfmt::skip]
 const PIECES: [&str; 34] = [
     "a ", "t ", "1 ", "'s' ", "not ", "- ", "lambda ", "or ", "< ", "+ ", "* ", "= ", "( ", ") ", "[ ", "] ", "{ ", "} ", ": ", ", ", "; ", ". ",
     "\n", "\n  ", "if ", "elif ", "else ", "def ", "class ", "for ", "in ", "while ", "return ", "pass ",
@@ -99,10 +102,13 @@ impl Generator {
 
     fn class(&mut self) -> usize {
         let mut at = self.random.below(CLASSES.iter().map(|class| class.weight).sum());
-        CLASSES.iter().position(|class| {
-            let here = at < class.weight;
-            at = at.wrapping_sub(class.weight);
-            here
-        }).expect("below the sum of the weights")
+        CLASSES
+            .iter()
+            .position(|class| {
+                let here = at < class.weight;
+                at = at.wrapping_sub(class.weight);
+                here
+            })
+            .expect("below the sum of the weights")
     }
 }

@@ -24,19 +24,19 @@ fn ends_indented(out: &[u8]) -> bool {
 
 pub struct Writer<'a> {
     pub random: &'a mut Random,
-    pub out: Vec<u8>,
-    pub budget: usize,
-    pub level: usize,
+    out: Vec<u8>,
+    budget: usize,
+    level: usize,
 }
 
 impl Writer<'_> {
-    fn spend(&mut self) -> bool {
+    pub fn spend(&mut self) -> bool {
         self.budget = self.budget.saturating_sub(1);
         self.budget > 0
     }
 
     /// Writes a token, with a blank where it would else be one with what stands before, or sometimes.
-    fn put(&mut self, token: &str) {
+    pub fn put(&mut self, token: &str) {
         let word = |b: &u8| b.is_ascii_alphanumeric() || *b == b'_';
         let first = token.as_bytes()[0];
         let joins = match self.out.last() {
@@ -55,12 +55,12 @@ impl Writer<'_> {
         self.out.extend(token.bytes());
     }
 
-    fn put_one_of(&mut self, tokens: &[&str]) {
+    pub fn put_one_of(&mut self, tokens: &[&str]) {
         let token = self.random.pick(tokens);
         self.put(token);
     }
 
-    fn name(&mut self) {
+    pub fn name(&mut self) {
         self.put_one_of(&["a", "b", "c", "t", "node", "_d", "E", "is", "x1"]);
     }
 
@@ -203,7 +203,7 @@ impl Writer<'_> {
     }
 
     /// A list: none or more, with commas, one trailing.
-    fn separated(&mut self, member: fn(&mut Self)) {
+    pub fn separated(&mut self, member: fn(&mut Self)) {
         let count = self.random.below(4);
         for number in 0..count {
             if number > 0 {
@@ -214,97 +214,5 @@ impl Writer<'_> {
         if count > 0 && self.random.once_in(5) {
             self.put(",");
         }
-    }
-
-    pub fn e(&mut self) {
-        if self.random.once_in(16) && self.spend() {
-            self.put("lambda");
-            self.separated(Self::name);
-            self.put(":");
-            return self.e();
-        }
-        self.operation();
-    }
-
-    /// Operands with operators between; how they group is the reader's to say.
-    fn operation(&mut self) {
-        const OPERATORS: [&str; 14] = ["or", "and", "==", "!=", "<", "<=", ">", ">=", "+", "-", "*", "//", "/", "%"];
-        self.operand();
-        while self.random.once_in(3) && self.spend() {
-            self.put_one_of(&OPERATORS);
-            self.operand();
-        }
-    }
-
-    fn operand(&mut self) {
-        while self.random.once_in(9) {
-            self.put_one_of(&["not", "-", "+"]);
-        }
-        self.alone();
-        while self.random.once_in(4) && self.spend() {
-            match self.random.below(3) {
-                0 => {
-                    self.put(".");
-                    self.name();
-                }
-                1 => {
-                    self.put("(");
-                    self.separated(Self::e);
-                    self.put(")");
-                }
-                _ => {
-                    self.put("[");
-                    self.e();
-                    self.put("]");
-                }
-            }
-        }
-    }
-
-    fn alone(&mut self) {
-        if !self.spend() {
-            return self.name();
-        }
-        match self.random.below(16) {
-            0 => self.enclosed("[", "]", Self::e),
-            1 => self.enclosed("{", "}", Self::e),
-            2 => self.enclosed("{", "}", |writer| {
-                writer.e();
-                writer.put(":");
-                writer.e();
-            }),
-            3 => {
-                self.put("t");
-                self.enclosed("{", "}", Self::e);
-            }
-            4 => {
-                self.put("(");
-                self.e();
-                self.put(")");
-            }
-            5 => {
-                self.put("(");
-                self.e();
-                self.put(",");
-                self.separated(Self::e);
-                self.put(")");
-            }
-            6 => self.put_one_of(&["())", "{}", "[]", "t{}"]),
-            7..=10 => self.literal(),
-            _ => self.name(),
-        }
-    }
-
-    fn enclosed(&mut self, opener: &str, closer: &str, member: fn(&mut Self)) {
-        self.put(opener);
-        self.separated(member);
-        self.put(closer);
-    }
-
-    fn literal(&mut self) {
-        self.put_one_of(&[
-            "0", "1", "42", "9223372036854775807", "1.5", "0.25e2", "3.0E-3", "None", "True", "False", "'s'", "\"two words\"", "'\\n\\'\\q'",
-            "\"\u{e9}\u{20ac}\"", "''", "'a\nb'",
-        ]);
     }
 }

@@ -3,6 +3,7 @@
 use crate::random::Random;
 
 /// Every keyword and operator, with names, literals and what matches nothing.
+#[rustfmt::skip]
 pub const TOKENS: [&str; 86] = [
     "if", "elif", "else", "while", "for", "in", "def", "return", "and", "or", "not", "class", "break", "continue", "pass", "lambda", "None",
     "True", "False", "a", "b", "t", "t", "_x1", "name", "ifs", "is", "e5", "0", "1", "7", "-1", "+2", "007", "1.5", "2.0e3", "0.1E-2", "''",
@@ -11,6 +12,7 @@ pub const TOKENS: [&str; 86] = [
 ];
 
 /// Openings of lines.
+#[rustfmt::skip]
 const STARTS: [&str; 12] = ["\n", "\n", "\n  ", "\n  ", "\n    ", "\n      ", "\n\n", "\n#c\n", "\n ", "\n   ", "\r\n", "\n\r  "];
 
 /// Any bytes, of the telling ones or of all 256, in UTF-8 or nearly.
@@ -63,6 +65,7 @@ pub fn tokens(random: &mut Random) -> Vec<u8> {
 
 /// Lines of little, with every sort of opening: spaces, tabs, carriage returns, comments.
 pub fn lines(random: &mut Random) -> Vec<u8> {
+    #[rustfmt::skip]
     const BODIES: [&str; 20] = [
         "a", "a = 1", "if a:", "if a: b", "else:", "elif b:", "def f():", "class C:", "while a:", "for i in b:", "pass", "", "", "# c", "\r", "a;", "(",
         ")", "return a", "\"x\ny\"",
@@ -145,8 +148,26 @@ fn float(random: &mut Random, src: &mut Vec<u8>) {
 }
 
 fn string(random: &mut Random, src: &mut Vec<u8>) {
-    const PARTS: [&str; 18] =
-        ["a", "bc", "\\n", "\\t", "\\r", "\\\\", "\\\"", "\\'", "\\q", "\\x41", "\\\u{e9}", "\u{20ac}", "\n", "\r", "#", "'", "\"", "\u{1f600}"];
+    const PARTS: [&str; 18] = [
+        "a",
+        "bc",
+        "\\n",
+        "\\t",
+        "\\r",
+        "\\\\",
+        "\\\"",
+        "\\'",
+        "\\q",
+        "\\x41",
+        "\\\u{e9}",
+        "\u{20ac}",
+        "\n",
+        "\r",
+        "#",
+        "'",
+        "\"",
+        "\u{1f600}",
+    ];
     let quote = random.byte_of(b"'\"");
     src.push(quote);
     for _ in 0..random.below(9) {
