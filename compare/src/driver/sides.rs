@@ -1,0 +1,222 @@
+//! One input put to both readers, and what they made of it.
+
+use plain::trial::{try_program, Verdict};
+use plain::{areas, Answer};
+use std::panic::{catch_unwind, AssertUnwindSafe};
+
+#[link(name = "ffi", kind = "static")]
+extern "C" {
+    fn tarbucket_parse_source(
+        src: *const u8,
+        src_len: usize,
+        tokens: *mut u32,
+        tokens_len: usize,
+        text: *mut u8,
+        text_len: usize,
+        tree: *mut u32,
+        tree_len: usize,
+        answer: *mut u32,
+        answer_len: usize,
+    ) -> u32;
+}
+
+/// What the library returns where `answer` has fewer than six words.
+const NO_ANSWER: u32 = 4294967295;
+
+/// Cells behind each slice that are looked at too.
+const MARGIN: usize = 24;
+
+/// The longest source that is put to the readers.
+pub const MOST: usize = plain::LONGEST + 64;
+
+/// A source, and how much longer (or shorter) than their areas the slices are; `answer` is a length.
+#[derive(Clone)]
+pub struct Case {
+    pub src: Vec<u8>,
+    pub tokens: isize,
+    pub text: isize,
+    pub tree: isize,
+    pub answer: usize,
+}
+
+impl Case {
+    /// Slices that fit.
+    pub fn of(src: Vec<u8>) -> Case {
+        Case { src, tokens: 0, text: 0, tree: 0, answer: 6 }
+    }
+
+    /// The lengths of the slices for tokens, text and tree.
+    fn lengths(&self) -> [usize; 3] {
+        let (tokens, text, tree) = areas(self.src.len());
+        let moved = |area: usize, by: isize| area.saturating_add_signed(by);
+        [moved(tokens, self.tokens), moved(text, self.text), moved(tree, self.tree)]
+    }
+}
+
+/// What a reader writes to.
+pub struct Buffers {
+    pub tokens: Vec<u32>,
+    pub text: Vec<u8>,
+    pub tree: Vec<u32>,
+    pub answer: Vec<u32>,
+}
+
+impl Buffers {
+    fn new() -> Buffers {
+        let (tokens, text, tree) = areas(MOST);
+        let more = 4 * MARGIN;
+        Buffers { tokens: vec![0; tokens + more], text: vec![0; text + more], tree: vec![0; tree + more], answer: vec![0; more] }
+    }
+
+    /// Fills what one input may reach with dirt.
+    fn soil(&mut self, dirt: u32, reach: [usize; 3]) {
+        let soil = |words: &mut [u32]| {
+            let mut word = dirt;
+            for cell in words {
+                *cell = word;
+                word = word.wrapping_add(0x9e37_79b9);
+            }
+        };
+        soil(&mut self.tokens[..reach[0]]);
+        soil(&mut self.tree[..reach[2]]);
+        soil(&mut self.answer);
+        for (index, cell) in self.text[..reach[1]].iter_mut().enumerate() {
+            *cell = dirt.wrapping_add(index as u32 * 7) as u8;
+        }
+    }
+}
+
+/// Where the two part, in words.
+pub struct Difference(pub String);
+
+fn differ<T>(what: impl Into<String>) -> Result<T, Difference> {
+    Err(Difference(what.into()))
+}
+
+/// How the ordered trial was compared with the descent.
+#[derive(Clone, Copy, PartialEq, Eq)]
+pub enum Tried {
+    Alike,
+    /// The descent didn't begin, or was refused by 13.
+    SetAside,
+    /// It went back more often than allowed.
+    Spent,
+}
+
+pub struct Sides {
+    pub plain: Buffers,
+    pub library: Buffers,
+    dirt: u32,
+}
+
+impl Sides {
+    pub fn new() -> Sides {
+        Sides { plain: Buffers::new(), library: Buffers::new(), dirt: 1 }
+    }
+
+    /// Puts a case to both readers and to the trial. Slices hold dirt before, and cells behind them are compared too.
+    pub fn compare(&mut self, case: &Case) -> Result<(Option<Answer>, Tried), Difference> {
+        self.dirt = self.dirt.wrapping_mul(1_664_525).wrapping_add(1_013_904_223);
+        let lengths = case.lengths();
+        let (tokens, text, tree) = areas(case.src.len());
+        let reach = [lengths[0].max(tokens) + MARGIN, lengths[1].max(text) + MARGIN, lengths[2].max(tree) + MARGIN];
+        self.plain.soil(self.dirt, reach);
+        self.library.soil(self.dirt, reach);
+        let answer = self.read_plain(case, lengths)?;
+        let returned = self.call(case, lengths);
+        let due = answer.map_or(NO_ANSWER, |answer| answer.number);
+        if returned != due {
+            return differ(format!("returned {returned}, not {due}"));
+        }
+        self.alike(reach)?;
+        let tried = answer.map_or(Ok(Tried::SetAside), |answer| self.try_too(&case.src, answer))?;
+        Ok((answer, tried))
+    }
+
+    /// The plain reader's turn; with fewer than six words for the answer nothing is written.
+    fn read_plain(&mut self, case: &Case, [tokens, text, tree]: [usize; 3]) -> Result<Option<Answer>, Difference> {
+        if case.answer < 6 {
+            return Ok(None);
+        }
+        let to = &mut self.plain;
+        let read = || plain::read(&case.src, &mut to.tokens[..tokens], &mut to.text[..text], &mut to.tree[..tree]);
+        let answer = catch_unwind(AssertUnwindSafe(read)).map_err(|_| Difference("the plain reader panicked".to_string()))?;
+        self.plain.answer[..6].copy_from_slice(&answer.words());
+        Ok(Some(answer))
+    }
+
+    fn call(&mut self, case: &Case, [tokens, text, tree]: [usize; 3]) -> u32 {
+        let Case { src, answer, .. } = case;
+        let to = &mut self.library;
+        // Each slice is whole within its buffer: `soil` has just filled more than that.
+        unsafe {
+            tarbucket_parse_source(
+                src.as_ptr(),
+                src.len(),
+                to.tokens.as_mut_ptr(),
+                tokens,
+                to.text.as_mut_ptr(),
+                text,
+                to.tree.as_mut_ptr(),
+                tree,
+                to.answer.as_mut_ptr(),
+                *answer,
+            )
+        }
+    }
+
+    fn alike(&self, [tokens, text, tree]: [usize; 3]) -> Result<(), Difference> {
+        let (plain, library) = (&self.plain, &self.library);
+        same("answer", &plain.answer, &library.answer)?;
+        same("tokens", &plain.tokens[..tokens], &library.tokens[..tokens])?;
+        same("text", &plain.text[..text], &library.text[..text])?;
+        same("tree", &plain.tree[..tree], &library.tree[..tree])
+    }
+
+    /// Whether the whole buffers are alike, also far behind what any input could reach.
+    pub fn all_alike(&self) -> Result<(), Difference> {
+        self.alike([self.plain.tokens.len(), self.plain.text.len(), self.plain.tree.len()])
+    }
+
+    /// The ordered trial is set beside the descent where that has read the tokens to an end or to a 14.
+    fn try_too(&self, src: &[u8], answer: Answer) -> Result<Tried, Difference> {
+        if answer.number != 0 && answer.number != 14 {
+            return Ok(Tried::SetAside);
+        }
+        let Ok(tokens) = plain::scan::scan(src) else { return differ("scanned twice, refused once") };
+        let fuel = 50_000 + 400 * tokens.len() as u64;
+        match (try_program(src, &tokens, fuel), answer.number) {
+            (Verdict::Spent, _) => Ok(Tried::Spent),
+            (Verdict::Refused, 14) => Ok(Tried::Alike),
+            (Verdict::Refused, _) => differ("the trial refuses"),
+            (Verdict::Accepted { .. }, 14) => differ("the trial accepts"),
+            (Verdict::Accepted { nodes, text }, _) => self.same_tree(&nodes, &text, answer),
+        }
+    }
+
+    /// Trees are alike when N, all words of the N records and the text are. The library's own are taken.
+    fn same_tree(&self, nodes: &[[u32; 8]], text: &[u8], answer: Answer) -> Result<Tried, Difference> {
+        let records = &self.library.tree[8..8 + 8 * answer.nodes as usize];
+        let unlike = nodes.iter().zip(records.chunks_exact(8)).position(|(tried, read)| tried != read);
+        if let Some(node) = unlike {
+            return differ(format!("node {node} is {:?} in the trial", nodes[node]));
+        }
+        if nodes.len() != answer.nodes as usize {
+            return differ(format!("the trial has {} nodes", nodes.len()));
+        }
+        if *text != self.library.text[..answer.text as usize] {
+            return differ(format!("the trial's text is b\"{}\"", text.escape_ascii()));
+        }
+        Ok(Tried::Alike)
+    }
+}
+
+fn same<T: Copy + PartialEq + std::fmt::Display>(what: &str, plain: &[T], library: &[T]) -> Result<(), Difference> {
+    if plain == library {
+        return Ok(());
+    }
+    match plain.iter().zip(library).position(|(plain, library)| plain != library) {
+        Some(at) => differ(format!("{what}: cell {at} is {} in the plain reader, {} in the library", plain[at], library[at])),
+        None => differ(format!("{what}: lengths")),
+    }
+}

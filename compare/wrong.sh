@@ -1,0 +1,43 @@
+#!/bin/sh
+# Puts wrong copies of the plain reader in the library's place: the driver must find a difference in each.
+set -eu
+cd "$(dirname "$0")/.."
+out=$PWD/target/wrong
+
+build() {
+    rustc --edition 2021 -O -A warnings -C metadata=wrong --crate-type rlib --crate-name plain "$out/src/lib.rs" -o "$out/libplain.rlib"
+    rustc --edition 2021 -O -C panic=abort --crate-type staticlib --crate-name ffi --extern plain="$out/libplain.rlib" \
+        compare/wrong/library.rs -o "$out/libffi.a"
+    STATICLIB=$out cargo build --offline --release --quiet --manifest-path compare/Cargo.toml --target-dir "$out/target"
+}
+
+# wrong WHAT FILE EDIT
+wrong() {
+    rm -rf "$out/src"
+    mkdir -p "$out"
+    cp -r compare/src "$out/src"
+    sed "$3" "compare/src/$2" > "$out/src/$2"
+    if cmp -s "compare/src/$2" "$out/src/$2"; then
+        echo "$1: the edit changes nothing"
+        exit 1
+    fi
+    build
+    if "$out/target/release/compare" --seconds 30 > "$out/log"; then
+        echo "$1: NOT FOUND"
+        exit 1
+    fi
+    printf '%s: %s\n' "$1" "$(grep '^input' "$out/log")"
+}
+
+wrong "at most 63 open" descent/mod.rs 's/DEPTH: u32 = 64/DEPTH: u32 = 63/'
+wrong "the opening that 13 refuses counted" descent/mod.rs 's/return Err(self.refused(13))/self.openings += 1; return Err(self.refused(13))/'
+wrong "not below comparison" descent/expression.rs \
+    's/let mut expr = self.f()?;/let mut expr = if matches!(signs.last(), Some((UnaryOp::Not, _))) { self.c()? } else { self.f()? };/'
+wrong "the target's own span" descent/statement.rs 's/target.span = self.span_from(start);//'
+wrong "a blank line let through before else" descent/statement.rs \
+    's/if self.kind() == Kind::Else {/if self.kind() == Kind::Newline \&\& self.tokens[self.at + 1].kind == Kind::Else { self.take(); } &/'
+wrong "a carriage return that clears the flag" scan.rs "s/b'.n' | b'.r' | b'#') => return/b'\\\\n' | b'#') => return/"
+wrong "m below 2^53" literal.rs 's/m > 1 << 53/m >= 1 << 53/'
+wrong "the tree not zeroed" lib.rs 's/ tree.fill(0);//'
+wrong "areas zeroed by 5" lib.rs 's/if matches!(parsed, Err(Answer { number: 5, .. }))/if false/'
+wrong "a word written behind the tokens" lib.rs 's/ tokens.fill(0);/& unsafe { *tokens.as_mut_ptr().add(token_area) = 5; }/'

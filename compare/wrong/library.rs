@@ -1,0 +1,28 @@
+//! The plain reader in the place of the verified one: compare/wrong.sh links wrong copies of it.
+
+/// # Safety
+/// As of the library's own function: each pointer is to as many cells as its length says.
+#[no_mangle]
+pub unsafe extern "C" fn tarbucket_parse_source(
+    src: *const u8,
+    src_len: usize,
+    tokens: *mut u32,
+    tokens_len: usize,
+    text: *mut u8,
+    text_len: usize,
+    tree: *mut u32,
+    tree_len: usize,
+    answer: *mut u32,
+    answer_len: usize,
+) -> u32 {
+    use std::slice::{from_raw_parts, from_raw_parts_mut};
+    if answer_len < 6 {
+        return 4294967295;
+    }
+    let src = from_raw_parts(src, src_len);
+    let tokens = from_raw_parts_mut(tokens, tokens_len);
+    let text = from_raw_parts_mut(text, text_len);
+    let made = plain::read(src, tokens, text, from_raw_parts_mut(tree, tree_len));
+    from_raw_parts_mut(answer, 6).copy_from_slice(&made.words());
+    made.number
+}
