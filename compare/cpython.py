@@ -19,6 +19,7 @@ import struct
 import subprocess
 import sys
 
+import python_cases
 from python_sources import sources
 from python_tree import KIND, KINDS, OPERATORS, Tree
 
@@ -138,6 +139,12 @@ def main():
     parser.add_argument("--library", default=os.path.join(ROOT, "target", "staticlib", "libffi.a"))
     parser.add_argument("--cases")
     arguments = parser.parse_args()
+    if arguments.cases:
+        figures = Figures()
+        for tree in python_cases.write(arguments.cases):
+            figures.add(tree)
+        figures.show()
+        return 0
     return compare(arguments)
 
 
