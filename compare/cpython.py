@@ -4,8 +4,8 @@
     python3 compare/cpython.py [--count N] [--seed S] [--library FILE]
 
 Each source of python_sources.py is read by CPython, whose nodes and tokens python_tree.py puts into the words of document 01, and by the reader through
-the static library. All words of all N records, the text, N and the header's other words but T and openings must be the same. It prints what was
-compared and the shortest sources that differ; the exit status is 1 where there is one.
+the static library. All words of all N records, the text, T, N and all of the answer and the header but the openings must be the same. It prints what
+was compared and the shortest sources that differ; the exit status is 1 where there is one.
 
     python3 compare/cpython.py --cases crates/python_cases
 
@@ -35,6 +35,8 @@ DEPARTURES = [
 
 def build(library):
     """The driver that reads sources through the library."""
+    if not os.path.exists(library):
+        sys.exit(f"no {library}: rt staticlib ffi writes it")
     folder = os.path.join(ROOT, "target", "compare")
     os.makedirs(folder, exist_ok=True)
     driver = os.path.join(folder, "words")
@@ -65,9 +67,9 @@ def difference(tree, answer, header, records, text):
     if answer[0]:
         return f"refused by {answer[0]} at {answer[1]}"
     count = len(tree.records)
-    if answer[1] != 0 or answer[3] != count or answer[4] != len(tree.text):
-        return f"answer {answer}, by CPython {count} nodes and {len(tree.text)} bytes of text"
-    if (*header[:2], *header[3:6], header[7]) != (1, count, len(tree.text), 8, count - 1, tree.size):
+    if answer[:5] != (0, 0, tree.count, count, len(tree.text)):
+        return f"answer {answer}, by CPython {tree.count} tokens, {count} nodes and {len(tree.text)} bytes of text"
+    if header != (1, count, tree.count, len(tree.text), 8, count - 1, answer[5], tree.size):
         return f"header {header}"
     for number, (ours, theirs) in enumerate(zip(records, tree.records)):
         if ours != theirs:
@@ -98,6 +100,8 @@ class Figures:
         print(f"nodes {sum(self.kinds.values())}:", ", ".join(f"{kind} {self.kinds[kind]}" for kind in KINDS))
         print("operators:", ", ".join(f"{name} {self.operators[name]}" for name in sorted(self.operators)))
         print("among them:", ", ".join(f"{name} {self.noted[name]}" for name in sorted(self.noted)))
+
+    def show_differences(self):
         print("differences:", len(self.differences))
         for source, what in sorted(self.differences, key=lambda pair: len(pair[0]))[:10]:
             print(repr(source), what)
@@ -116,7 +120,11 @@ def compare(arguments):
 
     def finish():
         for source, reply in zip(batch, read_all(driver, [source.encode() for source in batch])):
-            tree = Tree(source)
+            try:
+                tree = Tree(source)
+            except SyntaxError as error:
+                figures.differences.append((source, f"refused by CPython: {error}"))
+                continue
             figures.add(tree)
             what = difference(tree, *reply)
             if what:
@@ -129,6 +137,7 @@ def compare(arguments):
             finish()
     finish()
     figures.show()
+    figures.show_differences()
     return 1 if figures.differences else 0
 
 

@@ -38,7 +38,7 @@ def chosen():
 
 def shown(tree):
     records = ["".join(" -" if word == NONE else f" {word}" for word in record) for record in tree.records]
-    return f"{len(records)} {tree.text.hex() or '-'} |" + " |".join(records)
+    return f"{tree.count} {len(records)} {tree.text.hex() or '-'} |" + " |".join(records)
 
 
 def write(folder):

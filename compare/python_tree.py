@@ -32,7 +32,6 @@ BINARY = {
 }
 OPERATORS = "+ - * / // % == != < <= > >= and or".split()
 
-SKIPPED = (tokenize.COMMENT, tokenize.NL, tokenize.ENDMARKER)
 MARKS = {tokenize.NEWLINE: "NEWLINE", tokenize.INDENT: "INDENT", tokenize.DEDENT: "DEDENT"}
 
 
@@ -40,7 +39,7 @@ Token = collections.namedtuple("Token", "word start end")
 
 
 class Tree:
-    """`records`, the N lists of 8 words, and `text`, the decoded strings."""
+    """`records`, the N lists of 8 words, `text`, the decoded strings, and `count`, the tokens without Eof."""
 
     def __init__(self, source):
         self.lines = [line + "\n" for line in source.split("\n")]
@@ -57,12 +56,15 @@ class Tree:
         self.node("Program", 0, self.size, first)
 
     def read_tokens(self, source):
-        self.tokens, self.first, self.last, self.closer = [], {}, {}, {}
+        self.tokens, self.first, self.last, self.closer, self.count = [], {}, {}, {}, 0
         opened = []
         for token in tokenize.generate_tokens(io.StringIO(source).readline):
             self.noted["comments"] += token.type == tokenize.COMMENT
-            if token.type in SKIPPED or (token.type == tokenize.NEWLINE and not token.string):
-                continue  # also the Newline that only CPython implies
+            if token.type == tokenize.COMMENT or not (token.string or token.type == tokenize.DEDENT):
+                continue  # without text: the end, and a Newline that only CPython implies
+            self.count += 1
+            if token.type == tokenize.NL:
+                continue
             word = MARKS.get(token.type, token.string)
             at = len(self.tokens)
             self.tokens.append(Token(word, self.place(*token.start), self.place(*token.end)))
@@ -157,6 +159,7 @@ class Tree:
         digits = self.word(i + 1).isdigit() and self.tokens[i].end == self.tokens[i + 1].start
         if isinstance(operand, ast.Constant) and digits and i + 1 == j:
             self.noted["signed Ints"] += 1
+            self.count -= 1
             return self.integer(-operand.value if isinstance(node.op, ast.USub) else operand.value)
         return self.node("Unary", 0, 0, UNARY[type(node.op)], self.expression(operand, i + 1, j))
 
@@ -243,15 +246,13 @@ class Tree:
         name = type(node).__name__
         if name in COMPOUND:
             return getattr(self, "read_" + name)(node, i, self.tokens[i].start)
-        start, end = self.tokens[i].start, self.tokens[j].end
+        start, end, fields = self.tokens[i].start, self.tokens[j].end, []
         if name == "Assign":
             target = self.expression(node.targets[0], i, j)
             self.records[target][1:3] = start, end
             fields = [target, self.expression(node.value, i, j)]
         elif name in ("Expr", "Return"):
             fields = [self.expression(node.value, i, j)]
-        else:
-            fields = []
         return self.node(name, start, end, *fields), j + 1
 
     def read_If(self, node, i, start):

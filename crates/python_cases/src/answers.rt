@@ -51,18 +51,19 @@ fn print_text(text: &[u8], count: usize) {
     }
 }
 
-fn print_counted(text: &[u8], tree: &[u32], nodes: u32, bytes: u32) {
-    print_number(nodes as u64);
+fn print_counted(text: &[u8], tree: &[u32], nodes: u32, tokens: u32, bytes: u32) {
+    print_number(tokens as u64);
+    print_word(nodes);
     print_text(text, bytes as usize);
     print_records(tree, 8 * (nodes as usize) + 8);
 }
 
-// By the header's counts of nodes and bytes of text.
+// By the header's counts of nodes, tokens and bytes of text.
 fn print_tree(text: &[u8], tree: &[u32]) {
     if tree.len() < 8 {
         return;
     }
-    print_counted(text, tree, tree[1], tree[3]);
+    print_counted(text, tree, tree[1], tree[2], tree[3]);
 }
 
 fn print_refusal(number: u32, place: usize) {

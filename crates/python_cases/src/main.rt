@@ -1,8 +1,10 @@
 // Replays stored sources that CPython reads too, from the files that its arguments name, through `reader::parse_source`. A line of a file is a source in
 // hexadecimal, an empty one a dash; it is printed with ` = ` and one of these behind it:
 //
-//     NODES TEXT | RECORD | RECORD ..   the tree: how many nodes, the decoded text in hexadecimal, and the eight words of each, none as a dash
-//     no NUMBER PLACE                   a refusal, which none of the files has
+//     TOKENS NODES TEXT | RECORD | RECORD ..   how many tokens and nodes, the decoded text in hexadecimal, and the eight words of each node
+//     no NUMBER PLACE                          a refusal, which none of the files has
+//
+// No text at all and the word that means none are a dash.
 //
 // What must come is made from CPython's own reading. docs/CASES.md says how.
 mod answers;
