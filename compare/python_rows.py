@@ -44,3 +44,15 @@ def nest(frames, depth):
         fits = not (text.startswith("lambda") and frame == "{}.b") and not (text[0] in "-n" and frame == "{}.b")
         text = frame.format(text) if fits else "(" + text + ")"
     return text + "\n"
+
+
+def long_ones():
+    """Sources of 65,536 bytes, the most that 01 takes: lines, a list, a string, a call, a chain and a row of `or`."""
+    for first, part, last in (
+        ("", "a = b[-1] + 2.5 # x\n", ""), ("[", "a,", "]"), ("'", "\\n\\d\"é", "'"), ("f(", "(a), ", ")"), ("a", " < a", ""), ("a", " or a", ""),
+        ("", "if a:\n  b\nelif c: d; e\nelse:\n  pass\n", ""),
+    ):
+        room = 65536 - len((first + last).encode()) - 1
+        text = first + part * (room // len(part.encode())) + last
+        fill = "\n" if text[-1] == "\n" else " "
+        yield text + fill * (65535 - len(text.encode())) + "\n"

@@ -7,7 +7,7 @@ Python refuses, empty bodies, blank lines where they are refused, classes of oth
 """
 import random
 
-from python_rows import COMPARISONS, FACTORS, TERMS, nested, systematic
+from python_rows import COMPARISONS, FACTORS, TERMS, long_ones, nested, systematic
 
 NAMES = (
     "a b c x y i n t t self _ __init__ total node_5 e5 E r1 If classes not_ nota true none None_ print match case type or_else "
@@ -270,9 +270,9 @@ class Source:
 
 
 def sources(count, seed):
-    """The systematic ones, and then random ones: number, source."""
+    """Those of python_rows.py, and then random ones."""
     made = 0
-    for text in [*systematic(), *nested()]:
+    for text in [*systematic(), *nested(), *long_ones()]:
         if made < count:
             yield text
             made += 1
