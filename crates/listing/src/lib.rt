@@ -1,6 +1,6 @@
 // A source's printed form, written into a lent buffer: all of the program but its input and output.
 ghost use Prim.Native.Nat.{_+_, _*_, _≤_};
-ghost use lib.ListN.{length};
+ghost use lib.ListN.{length, take};
 ghost use Rattle.reader.specs.Answer.{numbersOf};
 ghost use Rattle.reader.specs.Outcome.{outcome};
 ghost use Rattle.printing.specs.Wrote.{Shows};
@@ -47,13 +47,15 @@ fn read(src: &[u8], out: &mut [u8]) -> usize
     print(answer, &tree, out)
 }
 
-// Writes what the program prints for this source, and answers how many bytes that are.
-pub fn list(src: &[u8], out: &mut [u8]) -> usize
-    requires { ⌜ 202741 ≤ length (now out) ⌝ }
-    ensures { λ r. ⌜ Shows (listing (now (src .entry))) (now (out .entry)) (now (out .exit)) r ⌝ }
+// Writes what the program prints for the script of n bytes at the front, and answers how many bytes that are. The script's array has one byte more
+// than is taken, so that a caller can't cut a longer input to one that is short enough.
+pub fn list(script: &[u8; MOST + 1], n: usize, out: &mut [u8; ROOM]) -> usize
+    requires { ⌜ n ≤ 1024 ⌝ }
+    ensures { λ r. ⌜ Shows (listing (take n (now (script .entry)))) (now (out .entry)) (now (out .exit)) r ⌝ }
 {
-    if MOST < src.len() {
+    let bytes: &[u8] = script;
+    if MOST < n {
         return printing::print_no(1, 0, out);
     }
-    read(src, out)
+    read(&bytes[..n], out)
 }
