@@ -1,7 +1,7 @@
 //! Times the verified reader beside a plain one in Rust and CPython's parser, over the same sources.
 //!
-//! `bench FOLDER` writes the sources into FOLDER and prints the table; `bench --pass SIDE SET` makes one pass, for a
-//! profile; `bench --sources FOLDER` writes the sources alone.
+//! `bench FOLDER` writes the sources into FOLDER and prints the table; `bench --pass SIDE SET TIMES` makes passes of
+//! one side alone, for a profile; `bench --sources FOLDER` writes the sources alone.
 
 mod clock;
 mod scripts;
@@ -37,20 +37,22 @@ fn main() {
     let arguments: Vec<String> = std::env::args().skip(1).collect();
     let arguments: Vec<&str> = arguments.iter().map(String::as_str).collect();
     match arguments[..] {
-        ["--pass", side, set] => one_pass(side, set),
+        ["--pass", side, set, times] => one_side(side, set, times),
         ["--sources", folder] => write_sources(Path::new(folder), &sets()),
         [folder] => table(Path::new(folder)),
-        _ => panic!("bench FOLDER, bench --sources FOLDER, or bench --pass SIDE SET"),
+        _ => panic!("bench FOLDER, bench --sources FOLDER, or bench --pass SIDE SET TIMES"),
     }
 }
 
-/// Side and set by number and name.
-fn one_pass(side: &str, set: &str) {
-    let side: usize = side.parse().expect("a side's number");
+/// Passes of a side, given by its number.
+fn one_side(side: &str, set: &str, times: &str) {
+    let (name, pass) = SIDES[side.parse::<usize>().expect("a side's number")];
+    let times: u64 = times.parse().expect("a number of passes");
     let sets = sets();
     let set = sets.iter().find(|one| one.name == set).expect("a set's name");
-    SIDES[side].1(&set.sources, &mut Buffers::new());
-    println!("{} sources, {} bytes, {}", set.sources.len(), set.bytes(), SIDES[side].0);
+    let mut buffers = Buffers::new();
+    (0..times).for_each(|_| pass(&set.sources, &mut buffers));
+    println!("{times} passes over {} sources, {} bytes: {name}", set.sources.len(), set.bytes());
 }
 
 fn write_sources(folder: &Path, sets: &[Set]) {
