@@ -51,8 +51,16 @@ fn one_side(side: &str, set: &str, times: &str) {
     let sets = sets();
     let set = sets.iter().find(|one| one.name == set).expect("a set's name");
     let mut buffers = Buffers::new();
-    (0..times).for_each(|_| pass(&set.sources, &mut buffers));
-    println!("{times} passes over {} sources, {} bytes: {name}", set.sources.len(), set.bytes());
+    let best = (0..times).map(|_| time(pass, set, &mut buffers)).min().unwrap_or(0);
+    let sources = set.sources.len();
+    println!("{name}: {times} passes over {sources} sources, the best {} ns per source", best / sources as i64);
+}
+
+/// One pass, in ns.
+fn time(pass: fn(&[Vec<u8>], &mut Buffers), set: &Set, buffers: &mut Buffers) -> i64 {
+    let start = clock::now();
+    pass(&set.sources, buffers);
+    clock::now() - start
 }
 
 fn write_sources(folder: &Path, sets: &[Set]) {
@@ -112,9 +120,7 @@ fn rust_times(set: &Set, buffers: &mut Buffers) -> Vec<f64> {
     let mut best = vec![f64::INFINITY; SIDES.len()];
     for _ in 0..set.passes {
         for (best, (_, pass)) in best.iter_mut().zip(SIDES) {
-            let start = clock::now();
-            pass(&set.sources, buffers);
-            *best = best.min((clock::now() - start) as f64);
+            *best = best.min(time(pass, set, buffers) as f64);
         }
     }
     best
