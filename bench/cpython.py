@@ -17,9 +17,11 @@ def one_pass(sources):
 def main():
     folder, passes = Path(sys.argv[1]), int(sys.argv[2])
     gc.disable()
-    for one_set in sorted(folder.iterdir()):
-        sources = [path.read_text() for path in sorted(one_set.glob("*.py"))]
-        print(one_set.name, min((one_pass(sources) for _ in range(passes)), default=0))
+    sets = {one.name: [path.read_text() for path in sorted(one.glob("*.py"))] for one in sorted(folder.iterdir())}
+    # The sets take turns, so that load falls on all.
+    times = [[one_pass(sources) for sources in sets.values()] for _ in range(passes)]
+    for name, best in zip(sets, map(min, zip(*times))):
+        print(name, best)
 
 
 main()

@@ -129,7 +129,7 @@ fn rust_times(set: &Set, buffers: &mut Buffers) -> Vec<f64> {
 /// CPython's best pass over each set, in ns.
 fn cpython(folder: &Path) -> Vec<(String, f64)> {
     let script = concat!(env!("CARGO_MANIFEST_DIR"), "/cpython.py");
-    let out = Command::new("python3").arg(script).arg(folder).arg("30").output().expect("python3 runs");
+    let out = Command::new("python3").arg(script).arg(folder).arg("60").output().expect("python3 runs");
     assert!(out.status.success(), "{}", String::from_utf8_lossy(&out.stderr));
     let lines = String::from_utf8(out.stdout).expect("text");
     let pair = |line: &str| line.split_once(' ').map(|(name, ns)| (name.to_string(), ns.parse().expect("ns")));
