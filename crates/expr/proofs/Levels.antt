@@ -1,18 +1,31 @@
 -- What the four levels of operators that group left have in common.
 -- Assumes nothing.
 use mathlib.Core.Path.{_≡_, refl}
-use mathlib.Core.Bool.{false}
-use Prim.Native.Nat.{ℕ, zero, suc, _<_}
+use mathlib.Core.Bool.{true, false}
+use mathlib.Core.List.{List, [], _∷_}
+use Prim.Native.Nat.{ℕ, zero, suc, _+_, _-_, _*_, _≤_, _<_}
 use native.Mathlib.Omega.{arith}
 use lib.Dec.{T}
+use lib.ListN.{length, getD}
 use Rattle.grammar.specs.Sets.{mem}
-use Rattle.grammar.specs.Grammar.{many}
+use Rattle.grammar.specs.Grammar.{call, many}
 use Rattle.grammar.specs.Descent.{null, begins}
 use Rattle.grammar.specs.Check.{low, takes}
 use Rattle.token.specs.Code.{String, Eof}
-use Rattle.pyhyeon.specs.Rules.{U}
-use Rattle.pyhyeon.specs.Tables.{first, firstU, least, rank, pyhyeon}
-use Rattle.joint.proofs.Bounds.{Spares, spares-a, spares-c, spares-p, spares-u}
+use Rattle.token.specs.declared.NodeNumber.{NodeNumber}
+use Rattle.pyhyeon.specs.Rules as rules
+use Rattle.pyhyeon.specs.Rules.{Rule, O, S, P, U, level, plain}
+use Rattle.pyhyeon.specs.Tables.{joined, first, firstU, least, rank, opens, pyhyeon}
+use Rattle.leaves.specs.declared.State.{State}
+use Rattle.leaves.specs.declared.Parsed.{Parsed}
+use Rattle.leaves.specs.declared.Parsed.the-variants.{Node, Refused}
+use Rattle.leaves.specs.Tokens.{eofAt, textBefore, symbolAt}
+use Rattle.leaves.specs.Contract.{raised, a-node, Rules, Ready}
+use Rattle.leaves.proofs.Tokens.{before-eof}
+use Rattle.joint.proofs.Bounds.{after-rule, Spares, spares-a, spares-c, spares-p, spares-u}
+use Rattle.joint.proofs.Chain.{called, part-then, turn-end, open-plain}
+use Rattle.joint.proofs.Loops.{ready-of}
+use Rattle.expr.specs.Levels.{Goes, Follows}
 use Rattle.expr.specs.Parts.{operand, operators, term}
 
 -- each operand begins with what begins U
@@ -76,3 +89,59 @@ last-operators zero a b c = absurd (a refl)
 last-operators (suc zero) a b c = absurd (b refl)
 last-operators (suc (suc zero)) a b c = absurd (c refl)
 last-operators (suc (suc (suc l))) a b c = refl
+
+-- the rule of each level, which is its operand and then its operators
+abbrev pub grouped : ℕ → Rule
+grouped level = getD (O ∷ rules.A ∷ S ∷ []) level P
+
+pub joined-level : (l : ℕ) → joined (grouped l) ≡ level (operand l) (operators l)
+unfolding joined plain
+joined-level zero = refl
+joined-level (suc zero) = refl
+joined-level (suc (suc zero)) = refl
+joined-level (suc (suc (suc l))) = refl
+
+pub opens-level : (l : ℕ) → opens (grouped l) ≡ false
+unfolding opens
+opens-level zero = refl
+opens-level (suc zero) = refl
+opens-level (suc (suc zero)) = refl
+opens-level (suc (suc (suc l))) = refl
+
+module _ {src toks : List ℕ} {room : ℕ} {s : State} {tr : List ℕ} {b : Parsed} {tr′ : List ℕ} (l : ℕ) where
+  -- the operand, by its own rule, and what its operators made of it
+  pub level-is : {a : Parsed} {tr₁ : List ℕ} → s .at .0 ≤ eofAt toks → mem (symbolAt src toks (s .at .0)) firstU ≡ true → Rules src toks room (operand l) a-node (raised s) tr a tr₁ →
+      Follows src toks room (many (term (operand l) (operators l))) a tr₁ b tr′ → Rules src toks room (grouped l) a-node s tr b tr′
+  level-is h f c g = open-plain (opens-level l) (λ vs. rw (joined-level l) (g .comes (call (operand l)) [] (raised s) tr (called h (rw (first-same l) f) c) .comes vs))
+
+-- no operator follows the operand
+pub level-ends : {src toks : List ℕ} {room : ℕ} {n : NodeNumber} {s : State} {tr : List ℕ} (l : ℕ) → s .at .0 ≤ eofAt toks → s .used ≡ textBefore src toks (s .at .0) → mem (symbolAt src toks (s .at .0)) (operators l) ≡ false →
+    Follows src toks room (many (term (operand l) (operators l))) (Node n s) tr (Node n s) tr
+level-ends l h u e = record { comes = λ p ins s₀ tr₀ c. record { comes = λ vs. part-then c refl (turn-end (low-level l) h (rw (begins-level l) e) u) } }
+
+-- how many words of the tokens are left behind a node; none are needed behind a refusal
+abbrev pub wordsBehind : List ℕ → Parsed → ℕ
+wordsBehind toks (Node n t) = length toks - 3 * t .at .0
+wordsBehind toks (Refused k t) = 0
+
+module _ {src toks : List ℕ} {room more : ℕ} {s : State} {tr : List ℕ} {a : Parsed} {tr₁ : List ℕ} (l : ℕ) (r : Ready src toks tr s more) (f : mem (symbolAt src toks (s .at .0)) firstU ≡ true) (c : Rules src toks room (operand l) a-node (raised s) tr a tr₁) where
+  inside : s .at .0 < eofAt toks
+  inside = before-eof firstU refl (r .tokens) (r .here) f
+
+  -- the level's operators can be asked for behind its operand
+  pub level-goes : more + rank (operand l) ≤ 9 → length tr₁ ≡ length tr → Goes src toks tr₁ a
+  level-goes k same = record {
+    ready = λ n t e. let g = after-rule _ _ (r .tokens) (spares-level l) inside c e in ready-of (r .tokens) (omega (arith, r .room, r .nodes, r .opened, same, k, g .on, g .here, g .nodes, g .opened, g .used), g .here, omega (arith, r .nodes, g .nodes), omega (arith, r .opened, k, g .opened), g .used);
+    there = λ n t e. after-rule _ _ (r .tokens) (spares-level l) inside c e .node;
+  }
+
+  -- and fewer tokens are left
+  pub level-falls : (m : ℕ) → 1 < m → 8 * wordsBehind toks a + 1 < 8 * (length toks - 3 * s .at .0) + m
+  level-falls m k = go a (λ n t e. after-rule _ _ (r .tokens) (spares-level l) inside c e .on)
+    where
+      go : (b : Parsed) → ((n : NodeNumber) (t : State) → b ≡ Node n t → s .at .0 < t .at .0) → 8 * wordsBehind toks b + 1 < 8 * (length toks - 3 * s .at .0) + m
+      go (Node n t) on = let g = on n t refl in omega arith
+      go (Refused i t) on = omega arith
+
+pub words-node : (toks : List ℕ) {a : Parsed} {n : NodeNumber} {t : State} → a ≡ Node n t → wordsBehind toks a ≡ length toks - 3 * t .at .0
+words-node toks e = rw e

@@ -1,2 +1,3 @@
+pub mod Atoms
 pub mod Levels
 pub mod Low

@@ -20,8 +20,10 @@ ghost use Rattle.leaves.specs.Tokens.{symbolAt};
 ghost use Rattle.leaves.specs.Contract.{a-node, a-list, Rules, Parts, Lists, Ready, Begun};
 ghost use Rattle.ast.specs.Kind as kind;
 ghost use Rattle.pyhyeon.specs.Action.{empty};
+ghost use Rattle.expr.specs.Levels.{Goes, Follows};
 ghost use Rattle.expr.specs.Parts.{operand, operators, term, chained, compares, others, entries, closes, enclosed, lambdaOn, lambdaBody, teeOn, valued, pairsRest, tupleRest, roundOn, callOn, indexOn};
 
+mod alone;
 mod comma;
 mod parameters;
 
@@ -144,24 +146,36 @@ fn body(
     }
 }
 
-// O: A by `or`.
+// O: A by `or`. An atom alone takes the short way through the seven rules from here to F.
 fn rule_o(src: &[u8], toks: &[u32], tree: &mut [u32], left: u32, s: State) -> Parsed
     requires { ⌜ Ready (now src) (now toks) (now tree) s 4 ⌝ }
     requires { ⌜ Begun (now src) (now toks) s O ⌝ }
     ensures { λ r. ⌜ Rules (now (src .entry)) (now (toks .entry)) left O a-node s (now (tree .entry)) r (now (tree .exit)) ⌝ }
 {
     let at = s.at;
-    let opened = s.opened + 1;
-    let up = State {
-        at: at,
-        nodes: s.nodes,
-        opened: opened,
-        used: s.used,
-    };
-    let inner = rule_a(src, toks, tree, left, up);
-    match inner {
-        Parsed::Node(n, after) => terms(src, toks, tree, left, OR, n, after),
-        Parsed::Refused(code, after) => Parsed::Refused(code, after),
+    let symbol = leaves::symbol_at(src, toks, at);
+    if alone::alone(src, toks, symbol, at) {
+        let opened = s.opened + 7;
+        let on = State {
+            at: at,
+            nodes: s.nodes,
+            opened: opened,
+            used: s.used,
+        };
+        let made = alone::atom(src, toks, tree, symbol, on);
+        let n = made.0;
+        let after = made.1;
+        Parsed::Node(n, after)
+    } else {
+        let opened = s.opened + 1;
+        let up = State {
+            at: at,
+            nodes: s.nodes,
+            opened: opened,
+            used: s.used,
+        };
+        let inner = rule_a(src, toks, tree, left, up);
+        by(src, toks, tree, left, OR, inner)
     }
 }
 
@@ -180,10 +194,7 @@ fn rule_a(src: &[u8], toks: &[u32], tree: &mut [u32], left: u32, s: State) -> Pa
         used: s.used,
     };
     let inner = rule_c(src, toks, tree, left, up);
-    match inner {
-        Parsed::Node(n, after) => terms(src, toks, tree, left, AND, n, after),
-        Parsed::Refused(code, after) => Parsed::Refused(code, after),
-    }
+    by(src, toks, tree, left, AND, inner)
 }
 
 // C: S by comparisons. `a<b<c` is And(a<b, b<c), whose b is one node.
@@ -318,10 +329,7 @@ fn rule_s(src: &[u8], toks: &[u32], tree: &mut [u32], left: u32, s: State) -> Pa
         used: s.used,
     };
     let inner = rule_p(src, toks, tree, left, up);
-    match inner {
-        Parsed::Node(n, after) => terms(src, toks, tree, left, SUM, n, after),
-        Parsed::Refused(code, after) => Parsed::Refused(code, after),
-    }
+    by(src, toks, tree, left, SUM, inner)
 }
 
 // P: U by * // / %.
@@ -339,9 +347,23 @@ fn rule_p(src: &[u8], toks: &[u32], tree: &mut [u32], left: u32, s: State) -> Pa
         used: s.used,
     };
     let inner = rule_u(src, toks, tree, left, up);
+    by(src, toks, tree, left, PRODUCT, inner)
+}
+
+// What was read of a level so far, and then its operators, if one stands next.
+fn by(src: &[u8], toks: &[u32], tree: &mut [u32], left: u32, level: u32, inner: Parsed) -> Parsed
+    requires { ⌜ Goes (now src) (now toks) (now tree) inner ⌝ }
+    ensures { λ r. ⌜ Follows (now (src .entry)) (now (toks .entry)) left (many (term (operand level) (operators level))) inner (now (tree .entry)) r (now (tree .exit)) ⌝ }
+{
     match inner {
-        Parsed::Node(n, after) => terms(src, toks, tree, left, PRODUCT, n, after),
-        Parsed::Refused(code, after) => Parsed::Refused(code, after),
+        Parsed::Node(n, after) => {
+            if is_operator(level, leaves::symbol_at(src, toks, after.at)) {
+                terms(src, toks, tree, left, level, n, after)
+            } else {
+                inner
+            }
+        }
+        Parsed::Refused(code, after) => inner,
     }
 }
 
@@ -469,13 +491,14 @@ fn rule_f(src: &[u8], toks: &[u32], tree: &mut [u32], left: u32, s: State) -> Pa
     }
 }
 
-// What stands before the postfix parts: a bracket, the name `t`, a name, or else a literal.
+// What stands before the postfix parts: a bracket, the name `t`, or else an atom.
 fn head(src: &[u8], toks: &[u32], tree: &mut [u32], left: u32, s: State) -> Parsed
     requires { ⌜ Ready (now src) (now toks) (now tree) s 11 ⌝ }
     requires { ⌜ Begun (now src) (now toks) s F ⌝ }
     ensures { λ r. ⌜ Parts (now (src .entry)) (now (toks .entry)) left primary [] a-node s (now (tree .entry)) r (now (tree .exit)) ⌝ }
 {
     let at = s.at;
+    let symbol = leaves::symbol_at(src, toks, at);
     let t = at.0 + 1;
     let on = State {
         at: TokenNumber(t),
@@ -483,19 +506,13 @@ fn head(src: &[u8], toks: &[u32], tree: &mut [u32], left: u32, s: State) -> Pars
         opened: s.opened,
         used: s.used,
     };
-    match leaves::symbol_at(src, toks, at) {
+    match symbol {
         token::LBRACKET => shown(src, toks, tree, left, at, token::RBRACKET, ast::LIST, on),
         leaves::TEE => tee(src, toks, tree, left, at, on),
         token::LBRACE => braces(src, toks, tree, left, at, on),
         token::LPAREN => round(src, toks, tree, left, at, on),
-        token::IDENTIFIER => {
-            let made = leaves::put_named(toks, tree, ast::VARIABLE, on);
-            let n = made.0;
-            let after = made.1;
-            Parsed::Node(n, after)
-        }
         _ => {
-            let made = leaves::put_literal(src, toks, tree, on);
+            let made = alone::atom(src, toks, tree, symbol, s);
             let n = made.0;
             let after = made.1;
             Parsed::Node(n, after)
