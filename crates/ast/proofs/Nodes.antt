@@ -12,11 +12,11 @@ use Rattle.ast.specs.Words.{tabulate, nodeAt, nodesOf, putNode, setSpan,
 use Rattle.ast.proofs.Tabulate.{length-tabulate, getD-tabulate, tabulate-snoc, tabulate-same, tabulate-set}
 
 -- words that were stored one after the other, and the words around them
-sets-before : (tree : List ℕ) (i : ℕ) (vs : List ℕ) (w : ℕ) → w < i → getD (sets tree i vs) w 0 ≡ getD tree w 0
+pub sets-before : (tree : List ℕ) (i : ℕ) (vs : List ℕ) (w : ℕ) → w < i → getD (sets tree i vs) w 0 ≡ getD tree w 0
 sets-before tree i [] w h = refl
 sets-before tree i (v ∷ vs) w h = sets-before (set tree i v) (suc i) vs w (omega arith) ∙ getD-set-other tree i w v 0 (λ e. omega arith)
 
-sets-after : (tree : List ℕ) (i : ℕ) (vs : List ℕ) (w : ℕ) → i + length vs ≤ w → getD (sets tree i vs) w 0 ≡ getD tree w 0
+pub sets-after : (tree : List ℕ) (i : ℕ) (vs : List ℕ) (w : ℕ) → i + length vs ≤ w → getD (sets tree i vs) w 0 ≡ getD tree w 0
 sets-after tree i [] w h = refl
 sets-after tree i (v ∷ vs) w h = sets-after (set tree i v) (suc i) vs w (omega arith) ∙ getD-set-other tree i w v 0 (λ e. omega arith)
 

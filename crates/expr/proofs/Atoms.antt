@@ -20,6 +20,7 @@ use Rattle.leaves.specs.declared.Parsed.the-variants.{Node}
 use Rattle.leaves.specs.Tokens.{eofAt, textBefore, symbolAt, Tokens}
 use Rattle.leaves.specs.Contract.{raised, a-node, Rules, Parts}
 use Rattle.leaves.specs.Put.{Run, signSet}
+use Rattle.leaves.proofs.Frames.{frame-none}
 use Rattle.leaves.proofs.Tokens.{before-eof}
 use Rattle.joint.proofs.Chain.{is-used, called, part-then, or-next, skip-end, turn-end, open-plain}
 use Rattle.joint.proofs.Ends.{act-wrapped, signs-then}
@@ -68,7 +69,7 @@ module _ {src toks : List ℕ} {room : ℕ} {s : State} {tr tr′ : List ℕ} {n
   unfolding joined plain opens first wrap
   u-ends h f e u c =
       let g : Run src toks signSet (s .at .0) (s .at .0) = record { order = omega arith; inside = h; each = λ k l m. absurd (omega arith); stop = e } in
-      open-plain refl (λ vs. signs-then (signs-pass g (part-then (called h f c) refl (act-wrapped {end = s .at .0} u (record { at = refl; opened = refl; used = refl; same = λ vs. rw (← zero) refl })))))
+      open-plain refl (λ vs. signs-then (signs-pass g (part-then (called h f c) refl (act-wrapped {end = s .at .0} u (record { at = refl; opened = refl; used = refl; same = λ vs. rw (← zero) refl; frame = frame-none })))))
     where
       zero : 0 ≡ s .at .0 - s .at .0
       zero = omega arith

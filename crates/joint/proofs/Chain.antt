@@ -28,7 +28,8 @@ use Rattle.leaves.specs.declared.State.{State}
 use Rattle.leaves.specs.declared.Parsed.{Parsed}
 use Rattle.leaves.specs.declared.Parsed.the-variants.{Node, Refused}
 use Rattle.leaves.specs.Tokens.{eofAt, textBefore, tokensOf, symbolAt}
-use Rattle.leaves.specs.Contract.{past, raised, kept, state, Shape, a-node, Told, told-node, told-no, told-deep, Rules, Comes, Parts}
+use Rattle.leaves.specs.Contract.{past, raised, kept, state, Shape, a-node, Frame, Told, told-node, told-no, told-deep, Rules, Comes, Parts}
+use Rattle.leaves.proofs.Frames.{frame-none, frame-then}
 use Rattle.leaves.proofs.Tokens.{symbols-length, symbols-at, sees-at}
 
 -- the tables pass their test
@@ -39,15 +40,23 @@ good r = tested pyhyeon r (language .passes r)
 pub is-node : {src toks : List ℕ} {out : Shape} {x : Answer (machine src (tokensOf src toks))} {r : Parsed} {tr : List ℕ} {n : NodeNumber} {s : State} {vs : List Value} → Told src toks out vs x r tr → r ≡ Node n s →
     x ≡ done (s .opened) (state src toks s tr (out (n .0) (s .nodes) ∷ vs))
 is-node (told-node n s tr u) e = cc
-is-node (told-no s tr ws) e = cc
-is-node (told-deep s tr ws) e = cc
+is-node (told-no s tr ws u) e = cc
+is-node (told-deep s tr ws u) e = cc
 
 -- and the text before its token is counted
 pub is-used : {src toks : List ℕ} {out : Shape} {x : Answer (machine src (tokensOf src toks))} {r : Parsed} {tr : List ℕ} {n : NodeNumber} {s : State} {vs : List Value} → Told src toks out vs x r tr → r ≡ Node n s →
     s .used ≡ textBefore src toks (s .at .0)
 is-used {s = s} (told-node n s₁ tr u) e = let d : s₁ ≡ s = cc in rw (← d) u
-is-used (told-no s tr ws) e = let z : _≡_ {A = ℕ} 0 1 = cc in absurd (omega arith)
-is-used (told-deep s tr ws) e = let z : _≡_ {A = ℕ} 0 1 = cc in absurd (omega arith)
+is-used (told-no s tr ws u) e = let z : _≡_ {A = ℕ} 0 1 = cc in absurd (omega arith)
+is-used (told-deep s tr ws u) e = let z : _≡_ {A = ℕ} 0 1 = cc in absurd (omega arith)
+
+-- the words that stay, through an answer that is known
+module _ {src toks : List ℕ} {room : ℕ} {p : Part Action Rule} {out : Shape} {vs ws : List Value} {s : State} {tr : List ℕ} {b : Parsed} {tr₁ : List ℕ} {s₁ : State} where
+  frame-node : {n : NodeNumber} {m : ℕ} {t : List ℕ} → Comes src toks room p out vs ws s tr b tr₁ → b ≡ Node n s₁ → Frame (s₁ .nodes) tr₁ m t → Frame (s .nodes) tr m t
+  frame-node c e f = frame-then (rw e at (c .frame)) f
+
+  frame-stop : {k : ℕ} → Comes src toks room p out vs ws s tr b tr₁ → b ≡ Refused k s₁ → Frame (s .nodes) tr (s₁ .nodes) tr₁
+  frame-stop c e = rw e at (c .frame)
 
 infixr 40 _⨟_
 -- one after the other, grouped to the right
@@ -173,30 +182,30 @@ module _ {src toks : List ℕ} {room : ℕ} {out : Shape} {vs : List Value} {a :
   pub tok-then : {set : List ℕ} {q : Part Action Rule} {s : State} {tr : List ℕ} {ws : List Value} → s .at .0 ≤ eofAt toks → mem (symbolAt src toks (s .at .0)) set ≡ true →
       Comes src toks room q out vs ws (past s) tr a t → Comes src toks room (tok set ⨾ q) out vs ws s tr a t
   unfolding walk seqD thenD sameD
-  tok-then {set} {s = s} {tr = tr} {ws = ws} h e c = record { told = rw (take-seen src toks set s tr ws h e) (c .told) }
+  tok-then {set} {s = s} {tr = tr} {ws = ws} h e c = record { told = rw (take-seen src toks set s tr ws h e) (c .told); frame = c .frame }
 
   -- an action, by what the code did to the tree
-  pub act-then : {x : Action} {q : Part Action Rule} {s s′ : State} {tr tr′ : List ℕ} {ws ws′ : List Value} → perform src (tokensOf src toks) x (kept s tr ws) ≡ kept s′ tr′ ws′ → s .at ≡ s′ .at → s .opened ≡ s′ .opened →
+  pub act-then : {x : Action} {q : Part Action Rule} {s s′ : State} {tr tr′ : List ℕ} {ws ws′ : List Value} → perform src (tokensOf src toks) x (kept s tr ws) ≡ kept s′ tr′ ws′ → s .at ≡ s′ .at → s .opened ≡ s′ .opened → Frame (s .nodes) tr (s′ .nodes) tr′ →
       Comes src toks room q out vs ws′ s′ tr′ a t → Comes src toks room (act x ⨾ q) out vs ws s tr a t
   unfolding walk seqD thenD sameD actP state
-  act-then {s = s} {s′ = s′} p e o c = record { told = rw (p, e, o) (c .told) }
+  act-then {s = s} {s′ = s′} p e o f c = record { told = rw (p, e, o) (c .told); frame = frame-then f (c .frame) }
 
   -- a part that code of its own reads
   pub part-then : {p q : Part Action Rule} {ins : List Value} {s s₁ : State} {tr tr₁ : List ℕ} {ws : List Value} {b : Parsed} {n : NodeNumber} {mid : Shape} → Parts src toks room p ins mid s tr b tr₁ → b ≡ Node n s₁ →
       Comes src toks room q out vs (mid (n .0) (s₁ .nodes) ∷ ws) s₁ tr₁ a t → Comes src toks room (p ⨾ q) out vs (ins ++ ws) s tr a t
   unfolding walk seqD thenD
-  part-then {ws = ws} r e c = record { told = rw (is-node (r .comes ws .told) e) (c .told) }
+  part-then {ws = ws} r e c = record { told = rw (is-node (r .comes ws .told) e) (c .told); frame = frame-node (r .comes ws) e (c .frame) }
 
   -- a part that is written as one, by its own parts
   pub flat : {p q : Part Action Rule} {s : State} {tr : List ℕ} {ws : List Value} → Comes src toks room (p ⨟ q) out vs ws s tr a t → Comes src toks room (p ⨾ q) out vs ws s tr a t
   unfolding walk seqD
-  flat {p} {q} {s} {tr} {ws} c = record { told = rw (regroup src toks room p q (s .opened) (state src toks s tr ws)) at (c .told) }
+  flat {p} {q} {s} {tr} {ws} c = record { told = rw (regroup src toks room p q (s .opened) (state src toks s tr ws)) at (c .told); frame = c .frame }
 
   -- a part that code of its own reads, at the head of a longer one
   pub flat-then : {p q : Part Action Rule} {ins : List Value} {s s₁ : State} {tr tr₁ : List ℕ} {ws : List Value} {b : Parsed} {n : NodeNumber} {mid : Shape} → Parts src toks room p ins mid s tr b tr₁ → b ≡ Node n s₁ →
       Comes src toks room q out vs (mid (n .0) (s₁ .nodes) ∷ ws) s₁ tr₁ a t → Comes src toks room (p ⨟ q) out vs (ins ++ ws) s tr a t
   unfolding thenD
-  flat-then {p} {q} {ins} {s} {tr = tr} {ws = ws} r e c = record { told = rw (regroup src toks room p q (s .opened) (state src toks s tr (ins ++ ws)), is-node (r .comes ws .told) e) (c .told) }
+  flat-then {p} {q} {ins} {s} {tr = tr} {ws = ws} r e c = record { told = rw (regroup src toks room p q (s .opened) (state src toks s tr (ins ++ ws)), is-node (r .comes ws .told) e) (c .told); frame = frame-node (r .comes ws) e (c .frame) }
 
   -- an alternative, by its first token; what follows the choice follows each of them
   pub alt-first : {p p′ q : Part Action Rule} {s : State} {tr : List ℕ} {ws : List Value} → s .at .0 ≤ eofAt toks → mem (symbolAt src toks (s .at .0)) (begins first p) ≡ true →
@@ -204,64 +213,64 @@ module _ {src toks : List ℕ} {room : ℕ} {out : Shape} {vs : List Value} {a :
   unfolding walk seqD byD state
   alt-first {p} {q = q} {s = s} {tr = tr} {ws = ws} h e c =
       let b = sees-at src toks (begins first p) (s .at .0) h ∙ e in
-      record { told = rw b (rw (regroup src toks room p q (s .opened) (state src toks s tr ws)) at (c .told)) }
+      record { told = rw b (rw (regroup src toks room p q (s .opened) (state src toks s tr ws)) at (c .told)); frame = c .frame }
 
   pub alt-next : {p p′ q : Part Action Rule} {s : State} {tr : List ℕ} {ws : List Value} → s .at .0 ≤ eofAt toks → mem (symbolAt src toks (s .at .0)) (begins first p) ≡ false →
       Comes src toks room (p′ ⨟ q) out vs ws s tr a t → Comes src toks room ((p ∕ p′) ⨾ q) out vs ws s tr a t
   unfolding walk seqD byD state
   alt-next {p} {p′} {q = q} {s = s} {tr = tr} {ws = ws} h e c =
       let b = sees-at src toks (begins first p) (s .at .0) h ∙ e in
-      record { told = rw b (rw (regroup src toks room p′ q (s .opened) (state src toks s tr ws)) at (c .told)) }
+      record { told = rw b (rw (regroup src toks room p′ q (s .opened) (state src toks s tr ws)) at (c .told)); frame = c .frame }
 
   -- the same at the end of a rule
   pub or-first : {p p′ : Part Action Rule} {s : State} {tr : List ℕ} {ws : List Value} → s .at .0 ≤ eofAt toks → mem (symbolAt src toks (s .at .0)) (begins first p) ≡ true →
       Comes src toks room p out vs ws s tr a t → Comes src toks room (p ∕ p′) out vs ws s tr a t
   unfolding walk byD state
-  or-first {p} {s = s} h e c = let b = sees-at src toks (begins first p) (s .at .0) h ∙ e in record { told = rw b (c .told) }
+  or-first {p} {s = s} h e c = let b = sees-at src toks (begins first p) (s .at .0) h ∙ e in record { told = rw b (c .told); frame = c .frame }
 
   pub or-next : {p p′ : Part Action Rule} {s : State} {tr : List ℕ} {ws : List Value} → s .at .0 ≤ eofAt toks → mem (symbolAt src toks (s .at .0)) (begins first p) ≡ false →
       Comes src toks room p′ out vs ws s tr a t → Comes src toks room (p ∕ p′) out vs ws s tr a t
   unfolding walk byD state
-  or-next {p} {s = s} h e c = let b = sees-at src toks (begins first p) (s .at .0) h ∙ e in record { told = rw b (c .told) }
+  or-next {p} {s = s} h e c = let b = sees-at src toks (begins first p) (s .at .0) h ∙ e in record { told = rw b (c .told); frame = c .frame }
 
   -- what is repeated: one more, or no more
   pub many-on : {p q : Part Action Rule} {s : State} {tr : List ℕ} {ws : List Value} → T (low pyhyeon 100 100 (many p)) → s .at .0 ≤ eofAt toks → mem (symbolAt src toks (s .at .0)) (begins first p) ≡ true →
       Comes src toks room (p ⨟ (many p ⨾ q)) out vs ws s tr a t → Comes src toks room (many p ⨾ q) out vs ws s tr a t
-  many-on {p} {q} {s = s} {tr = tr} {ws = ws} l h e c = record { told = rw (many-goes src toks room s tr ws h p q l e) (c .told) }
+  many-on {p} {q} {s = s} {tr = tr} {ws = ws} l h e c = record { told = rw (many-goes src toks room s tr ws h p q l e) (c .told); frame = c .frame }
 
   pub many-end : {p q : Part Action Rule} {s : State} {tr : List ℕ} {ws : List Value} → T (low pyhyeon 100 100 (many p)) → s .at .0 ≤ eofAt toks → mem (symbolAt src toks (s .at .0)) (begins first p) ≡ false →
       Comes src toks room q out vs ws s tr a t → Comes src toks room (many p ⨾ q) out vs ws s tr a t
   unfolding walk seqD thenD
-  many-end {p} {q} {s = s} {tr = tr} {ws = ws} l h e c = record { told = rw (many-none src toks room s tr ws h p l e) (c .told) }
+  many-end {p} {q} {s = s} {tr = tr} {ws = ws} l h e c = record { told = rw (many-none src toks room s tr ws h p l e) (c .told); frame = c .frame }
 
   -- the same at the end of a rule
   pub turn-on : {p : Part Action Rule} {s : State} {tr : List ℕ} {ws : List Value} → T (low pyhyeon 100 100 (many p)) → s .at .0 ≤ eofAt toks → mem (symbolAt src toks (s .at .0)) (begins first p) ≡ true →
       Comes src toks room (p ⨟ many p) out vs ws s tr a t → Comes src toks room (many p) out vs ws s tr a t
-  turn-on {p} {s = s} {tr = tr} {ws = ws} l h e c = record { told = rw (many-turns src toks room s tr ws h p l e) (c .told) }
+  turn-on {p} {s = s} {tr = tr} {ws = ws} l h e c = record { told = rw (many-turns src toks room s tr ws h p l e) (c .told); frame = c .frame }
 
   -- the rest of a list: no comma; a comma and no member; a comma and a member
   pub list-end : {i : ℕ} {p q : Part Action Rule} {s : State} {tr : List ℕ} {ws : List Value} → T (low pyhyeon 100 100 p) → s .at .0 ≤ eofAt toks → mem (symbolAt src toks (s .at .0)) (i ∷ []) ≡ false →
       Comes src toks room q out vs ws s tr a t → Comes src toks room (tail i p ⨾ q) out vs ws s tr a t
-  list-end {i} {p} {q} {s = s} {tr = tr} {ws = ws} l h e c = record { told = rw (tail-stays src toks room s tr ws h i p q l e) (c .told) }
+  list-end {i} {p} {q} {s = s} {tr = tr} {ws = ws} l h e c = record { told = rw (tail-stays src toks room s tr ws h i p q l e) (c .told); frame = c .frame }
 
   pub list-shut : {i : ℕ} {p q : Part Action Rule} {s : State} {tr : List ℕ} {ws : List Value} → T (low pyhyeon 100 100 p) → s .at .0 + 1 ≤ eofAt toks → mem (symbolAt src toks (s .at .0)) (i ∷ []) ≡ true →
       mem (symbolAt src toks (s .at .0 + 1)) (begins first p) ≡ false → Comes src toks room q out vs ws (past s) tr a t → Comes src toks room (tail i p ⨾ q) out vs ws s tr a t
-  list-shut {i} {p} {q} {s = s} {tr = tr} {ws = ws} l h e f c = record { told = rw (tail-shut src toks room s tr ws (omega arith) i p q l e h f) (c .told) }
+  list-shut {i} {p} {q} {s = s} {tr = tr} {ws = ws} l h e f c = record { told = rw (tail-shut src toks room s tr ws (omega arith) i p q l e h f) (c .told); frame = c .frame }
 
   pub list-on : {i : ℕ} {p q : Part Action Rule} {s : State} {tr : List ℕ} {ws : List Value} → T (low pyhyeon 100 100 p) → s .at .0 + 1 ≤ eofAt toks → mem (symbolAt src toks (s .at .0)) (i ∷ []) ≡ true →
       mem (symbolAt src toks (s .at .0 + 1)) (begins first p) ≡ true → Comes src toks room (p ⨟ (tail i p ⨾ q)) out vs ws (past s) tr a t → Comes src toks room (tail i p ⨾ q) out vs ws s tr a t
-  list-on {i} {p} {q} {s = s} {tr = tr} {ws = ws} l h e f c = record { told = rw (tail-goes src toks room s tr ws (omega arith) i p q l e h f) (c .told) }
+  list-on {i} {p} {q} {s = s} {tr = tr} {ws = ws} l h e f c = record { told = rw (tail-goes src toks room s tr ws (omega arith) i p q l e h f) (c .told); frame = c .frame }
 
 -- a rule is its body, with one opening more
 module _ {src toks : List ℕ} {room : ℕ} {r : Rule} {out : Shape} {s : State} {tr : List ℕ} where
   pub open-plain : {a : Parsed} {t : List ℕ} → opens r ≡ false → ((vs : List Value) → Comes src toks room (joined r) out vs vs (raised s) tr a t) → Rules src toks room r out s tr a t
   unfolding state enter
-  open-plain o c = record { told = λ vs. rw (descend-is pyhyeon good room r (s .opened) (state src toks s tr vs), o) (c vs .told) }
+  open-plain o c = record { told = λ vs. rw (descend-is pyhyeon good room r (s .opened) (state src toks s tr vs), o) (c vs .told); frame = c [] .frame }
 
   -- E and Block take of the room
-  pub open-deep : opens r ≡ true → room ≡ 0 → Rules src toks room r out s tr (Refused 13 s) tr
+  pub open-deep : opens r ≡ true → s .used ≡ textBefore src toks (s .at .0) → room ≡ 0 → Rules src toks room r out s tr (Refused 13 s) tr
   unfolding enter
-  open-deep o z = record { told = λ vs. rw (descend-is pyhyeon good room r (s .opened) (state src toks s tr vs), o, z) (told-deep s tr vs) }
+  open-deep o u z = record { told = λ vs. rw (descend-is pyhyeon good room r (s .opened) (state src toks s tr vs), o, z) (told-deep s tr vs u); frame = frame-none }
 
   pub open-room : {a : Parsed} {t : List ℕ} → opens r ≡ true → (room ≡ 0 → ⊥) → ((vs : List Value) → Comes src toks (room - 1) (joined r) out vs vs (raised s) tr a t) → Rules src toks room r out s tr a t
   unfolding enter state
@@ -269,55 +278,55 @@ module _ {src toks : List ℕ} {room : ℕ} {r : Rule} {out : Shape} {s : State}
     where
       go : (m : ℕ) → (m ≡ 0 → ⊥) → ((vs : List Value) → Comes src toks (m - 1) (joined r) out vs vs (raised s) tr a t) → Rules src toks m r out s tr a t
       go zero nz c = absurd (nz refl)
-      go (suc m) nz c = let e : suc m - 1 ≡ m = omega arith in record { told = λ vs. rw (descend-is pyhyeon good (suc m) r (s .opened) (state src toks s tr vs), o) (rw e at (c vs .told)) }
+      go (suc m) nz c = let e : suc m - 1 ≡ m = omega arith in record { told = λ vs. rw (descend-is pyhyeon good (suc m) r (s .opened) (state src toks s tr vs), o) (rw e at (c vs .told)); frame = c [] .frame }
 
 stop : {src toks : List ℕ} {out mid : Shape} {vs : List Value} {x : Answer (machine src (tokensOf src toks))} {b : Parsed} {t : List ℕ} {k : ℕ} {s₁ : State} {us : List Value} (w : Walk (machine src (tokensOf src toks))) → Told src toks mid us x b t → b ≡ Refused k s₁ → Told src toks out vs (thenD x w) (Refused k s₁) t
 unfolding thenD
 stop w (told-node n s tr u) e = absurd (let z : _≡_ {A = ℕ} 0 1 = cc in omega arith)
-stop w (told-no s tr ws) e = rw (← e) (told-no s tr ws)
-stop w (told-deep s tr ws) e = rw (← e) (told-deep s tr ws)
+stop w (told-no s tr ws u) e = rw (← e) (told-no s tr ws u)
+stop w (told-deep s tr ws u) e = rw (← e) (told-deep s tr ws u)
 
 -- where a part ends: the node, or the refusal
 module _ {src toks : List ℕ} {room : ℕ} {out : Shape} {vs : List Value} where
-  pub act-last : {x : Action} {s s′ : State} {tr tr′ : List ℕ} {ws : List Value} {n : NodeNumber} → perform src (tokensOf src toks) x (kept s tr ws) ≡ kept s′ tr′ (out (n .0) (s′ .nodes) ∷ vs) → s .at ≡ s′ .at → s .opened ≡ s′ .opened → s′ .used ≡ textBefore src toks (s′ .at .0) →
+  pub act-last : {x : Action} {s s′ : State} {tr tr′ : List ℕ} {ws : List Value} {n : NodeNumber} → perform src (tokensOf src toks) x (kept s tr ws) ≡ kept s′ tr′ (out (n .0) (s′ .nodes) ∷ vs) → s .at ≡ s′ .at → s .opened ≡ s′ .opened → Frame (s .nodes) tr (s′ .nodes) tr′ → s′ .used ≡ textBefore src toks (s′ .at .0) →
       Comes src toks room (act x) out vs ws s tr (Node n s′) tr′
   unfolding walk sameD actP state
-  act-last {s′ = s′} {tr′ = tr′} {n = n} p e o u = record { told = rw (p, e, o) (told-node n s′ tr′ u) }
+  act-last {s′ = s′} {tr′ = tr′} {n = n} p e o f u = record { told = rw (p, e, o) (told-node n s′ tr′ u); frame = f }
 
   -- nothing, after a node
   pub skip-end : {s : State} {tr : List ℕ} {n : NodeNumber} → s .used ≡ textBefore src toks (s .at .0) → Comes src toks room skip out vs (out (n .0) (s .nodes) ∷ vs) s tr (Node n s) tr
   unfolding walk sameD skipP
-  skip-end {s} {tr} {n} u = record { told = told-node n s tr u }
+  skip-end {s} {tr} {n} u = record { told = told-node n s tr u; frame = frame-none }
 
   pub turn-end : {p : Part Action Rule} {s : State} {tr : List ℕ} {n : NodeNumber} → T (low pyhyeon 100 100 (many p)) → s .at .0 ≤ eofAt toks → mem (symbolAt src toks (s .at .0)) (begins first p) ≡ false → s .used ≡ textBefore src toks (s .at .0) →
       Comes src toks room (many p) out vs (out (n .0) (s .nodes) ∷ vs) s tr (Node n s) tr
-  turn-end {p} {s} {tr} {n} l h e u = record { told = rw (many-none src toks room s tr (out (n .0) (s .nodes) ∷ vs) h p l e) (told-node n s tr u) }
+  turn-end {p} {s} {tr} {n} l h e u = record { told = rw (many-none src toks room s tr (out (n .0) (s .nodes) ∷ vs) h p l e) (told-node n s tr u); frame = frame-none }
 
-  pub tok-not : {set : List ℕ} {q : Part Action Rule} {s : State} {tr : List ℕ} {ws : List Value} → s .at .0 ≤ eofAt toks → mem (symbolAt src toks (s .at .0)) set ≡ false →
+  pub tok-not : {set : List ℕ} {q : Part Action Rule} {s : State} {tr : List ℕ} {ws : List Value} → s .at .0 ≤ eofAt toks → s .used ≡ textBefore src toks (s .at .0) → mem (symbolAt src toks (s .at .0)) set ≡ false →
       Comes src toks room (tok set ⨾ q) out vs ws s tr (Refused 14 s) tr
   unfolding walk seqD thenD sameD
-  tok-not {set} {s = s} {tr = tr} {ws = ws} h e = record { told = rw (take-unseen src toks set s tr ws h e) (told-no s tr ws) }
+  tok-not {set} {s = s} {tr = tr} {ws = ws} h u e = record { told = rw (take-unseen src toks set s tr ws h e) (told-no s tr ws u); frame = frame-none }
 
   pub part-stop : {p q : Part Action Rule} {ins : List Value} {s s₁ : State} {tr tr₁ : List ℕ} {b : Parsed} {k : ℕ} {mid : Shape} (ws : List Value) → Parts src toks room p ins mid s tr b tr₁ → b ≡ Refused k s₁ →
       Comes src toks room (p ⨾ q) out vs (ins ++ ws) s tr (Refused k s₁) tr₁
   unfolding walk seqD
-  part-stop {q = q} ws r e = record { told = stop (on src toks room q) (r .comes ws .told) e }
+  part-stop {q = q} ws r e = record { told = stop (on src toks room q) (r .comes ws .told) e; frame = frame-stop (r .comes ws) e }
 
 module _ {src toks : List ℕ} {room : ℕ} {out : Shape} {vs : List Value} where
   pub flat-stop : {p : Part Action Rule} {ins : List Value} {s s₁ : State} {tr tr₁ : List ℕ} {b : Parsed} {k : ℕ} {mid : Shape} (q : Part Action Rule) (ws : List Value) → Parts src toks room p ins mid s tr b tr₁ → b ≡ Refused k s₁ →
       Comes src toks room (p ⨟ q) out vs (ins ++ ws) s tr (Refused k s₁) tr₁
-  flat-stop {p} {ins} {s} {tr = tr} q ws r e = record { told = rw (regroup src toks room p q (s .opened) (state src toks s tr (ins ++ ws))) (stop (on src toks room q) (r .comes ws .told) e) }
+  flat-stop {p} {ins} {s} {tr = tr} q ws r e = record { told = rw (regroup src toks room p q (s .opened) (state src toks s tr (ins ++ ws))) (stop (on src toks room q) (r .comes ws .told) e); frame = frame-stop (r .comes ws) e }
 
 -- a call of a rule
 module _ {src toks : List ℕ} {room : ℕ} {r : Rule} {out : Shape} {s : State} {tr : List ℕ} where
   pub called : {a : Parsed} {t : List ℕ} → s .at .0 ≤ eofAt toks → mem (symbolAt src toks (s .at .0)) (first r) ≡ true → Rules src toks room r out s tr a t → Parts src toks room (call r) [] out s tr a t
   unfolding walk byD state
-  called h e c = record { comes = λ vs. record { told = rw (sees-at src toks (first r) (s .at .0) h ∙ e) (c .told vs) } }
+  called h e c = record { comes = λ vs. record { told = rw (sees-at src toks (first r) (s .at .0) h ∙ e) (c .told vs); frame = c .frame } }
 
-  pub no-call : s .at .0 ≤ eofAt toks → mem (symbolAt src toks (s .at .0)) (first r) ≡ false → Parts src toks room (call r) [] out s tr (Refused 14 s) tr
+  pub no-call : s .at .0 ≤ eofAt toks → s .used ≡ textBefore src toks (s .at .0) → mem (symbolAt src toks (s .at .0)) (first r) ≡ false → Parts src toks room (call r) [] out s tr (Refused 14 s) tr
   unfolding walk byD state
-  no-call h e = record { comes = λ vs. record { told = rw (sees-at src toks (first r) (s .at .0) h ∙ e) (told-no s tr vs) } }
+  no-call h u e = record { comes = λ vs. record { told = rw (sees-at src toks (first r) (s .at .0) h ∙ e) (told-no s tr vs u); frame = frame-none } }
 
 -- the same where more was to follow, and so any shape will do
-pub not-called : {src toks : List ℕ} {room : ℕ} {r : Rule} {s : State} {tr : List ℕ} → s .at .0 ≤ eofAt toks → mem (symbolAt src toks (s .at .0)) (first r) ≡ false → Parts src toks room (call r) [] a-node s tr (Refused 14 s) tr
+pub not-called : {src toks : List ℕ} {room : ℕ} {r : Rule} {s : State} {tr : List ℕ} → s .at .0 ≤ eofAt toks → s .used ≡ textBefore src toks (s .at .0) → mem (symbolAt src toks (s .at .0)) (first r) ≡ false → Parts src toks room (call r) [] a-node s tr (Refused 14 s) tr
 not-called = no-call

@@ -20,6 +20,7 @@ use Rattle.leaves.specs.declared.Parsed.{Parsed}
 use Rattle.leaves.specs.Tokens.{eofAt, textBefore, Tokens}
 use Rattle.leaves.specs.Contract.{Shape, Comes}
 use Rattle.leaves.specs.Put.{Run, signSet}
+use Rattle.leaves.proofs.Frames.{frame-none}
 use Rattle.leaves.proofs.Tokens.{took}
 use Rattle.joint.proofs.Chain.{tok-then, act-then, many-on, many-end}
 
@@ -49,7 +50,7 @@ module _ {src toks : List ℕ} {room : ℕ} {out : Shape} {vs ws : List Value} {
       let h : k ≤ eofAt toks = omega arith in
       let m = g .each k l (omega arith) in
       let z : k - first + 1 ≡ k + 1 - first = omega arith in
-      many-on sign-low h m (tok-then h m (act-then {s′ = moved s (k + 1)} (rw z) refl refl (passing n (k + 1) (omega arith) (omega arith) c)))
+      many-on sign-low h m (tok-then h m (act-then {s′ = moved s (k + 1)} (rw z) refl refl frame-none (passing n (k + 1) (omega arith) (omega arith) c)))
 
 -- all signs from the state's token on
 module _ {src toks : List ℕ} {room : ℕ} {out : Shape} {vs ws : List Value} {s : State} {tr : List ℕ} {q : Part Action Rule} {a : Parsed} {t : List ℕ} {end : ℕ} where

@@ -18,6 +18,7 @@ use Rattle.leaves.specs.declared.Parsed.{Parsed}
 use Rattle.leaves.specs.declared.Parsed.the-variants.{Node, Refused}
 use Rattle.leaves.specs.Tokens.{eofAt, textBefore, tokensOf, symbolAt}
 use Rattle.leaves.specs.Contract.{past, state, Shape, told-no, Comes}
+use Rattle.leaves.proofs.Frames.{frame-none}
 use Rattle.leaves.proofs.Tokens.{sees-at}
 use Rattle.joint.proofs.Chain.{tok-then, tok-not, skip-end}
 
@@ -32,30 +33,30 @@ module _ {src toks : List ℕ} {room : ℕ} {out : Shape} {vs : List Value} {a :
   -- a part with nothing after it
   pub unskip : {p : Part Action Rule} {s : State} {tr : List ℕ} {ws : List Value} → Comes src toks room (p ⨾ skip) out vs ws s tr a t → Comes src toks room p out vs ws s tr a t
   unfolding walk seqD
-  unskip {p} {s} {tr} {ws} c = record { told = rw (then-skip src toks room (walk first (descend pyhyeon room) p (s .opened) (state src toks s tr ws))) at (c .told) }
+  unskip {p} {s} {tr} {ws} c = record { told = rw (then-skip src toks room (walk first (descend pyhyeon room) p (s .opened) (state src toks s tr ws))) at (c .told); frame = c .frame }
 
   pub see-then : {set : List ℕ} {q : Part Action Rule} {s : State} {tr : List ℕ} {ws : List Value} → s .at .0 ≤ eofAt toks → mem (symbolAt src toks (s .at .0)) set ≡ true →
       Comes src toks room q out vs ws s tr a t → Comes src toks room (see set ⨾ q) out vs ws s tr a t
   unfolding walk seqD thenD sameD seeP okIf state
-  see-then {set} {s = s} h e c = let b = sees-at src toks set (s .at .0) h ∙ e in record { told = rw b (c .told) }
+  see-then {set} {s = s} h e c = let b = sees-at src toks set (s .at .0) h ∙ e in record { told = rw b (c .told); frame = c .frame }
 
 module _ {src toks : List ℕ} {room : ℕ} {out : Shape} {vs : List Value} where
-  pub see-not : {set : List ℕ} {q : Part Action Rule} {s : State} {tr : List ℕ} {ws : List Value} → s .at .0 ≤ eofAt toks → mem (symbolAt src toks (s .at .0)) set ≡ false →
+  pub see-not : {set : List ℕ} {q : Part Action Rule} {s : State} {tr : List ℕ} {ws : List Value} → s .at .0 ≤ eofAt toks → s .used ≡ textBefore src toks (s .at .0) → mem (symbolAt src toks (s .at .0)) set ≡ false →
       Comes src toks room (see set ⨾ q) out vs ws s tr (Refused 14 s) tr
   unfolding walk seqD thenD sameD seeP okIf state
-  see-not {set} {s = s} {tr = tr} {ws = ws} h e = let b = sees-at src toks set (s .at .0) h ∙ e in record { told = rw b (told-no s tr ws) }
+  see-not {set} {s = s} {tr = tr} {ws = ws} h u e = let b = sees-at src toks set (s .at .0) h ∙ e in record { told = rw b (told-no s tr ws u); frame = frame-none }
 
   -- the same at the end of a part
   pub see-end : {set : List ℕ} {s : State} {tr : List ℕ} {n : NodeNumber} → s .at .0 ≤ eofAt toks → mem (symbolAt src toks (s .at .0)) set ≡ true → s .used ≡ textBefore src toks (s .at .0) →
       Comes src toks room (see set) out vs (out (n .0) (s .nodes) ∷ vs) s tr (Node n s) tr
   see-end h e u = unskip (see-then h e (skip-end u))
 
-  pub see-no : {set : List ℕ} {s : State} {tr : List ℕ} {ws : List Value} → s .at .0 ≤ eofAt toks → mem (symbolAt src toks (s .at .0)) set ≡ false → Comes src toks room (see set) out vs ws s tr (Refused 14 s) tr
-  see-no h e = unskip (see-not h e)
+  pub see-no : {set : List ℕ} {s : State} {tr : List ℕ} {ws : List Value} → s .at .0 ≤ eofAt toks → s .used ≡ textBefore src toks (s .at .0) → mem (symbolAt src toks (s .at .0)) set ≡ false → Comes src toks room (see set) out vs ws s tr (Refused 14 s) tr
+  see-no h u e = unskip (see-not h u e)
 
   pub tok-end : {set : List ℕ} {s : State} {tr : List ℕ} {n : NodeNumber} → s .at .0 ≤ eofAt toks → mem (symbolAt src toks (s .at .0)) set ≡ true → s .used ≡ textBefore src toks (s .at .0 + 1) →
       Comes src toks room (tok set) out vs (out (n .0) (s .nodes) ∷ vs) s tr (Node n (past s)) tr
   tok-end h e u = unskip (tok-then h e (skip-end u))
 
-  pub tok-no : {set : List ℕ} {s : State} {tr : List ℕ} {ws : List Value} → s .at .0 ≤ eofAt toks → mem (symbolAt src toks (s .at .0)) set ≡ false → Comes src toks room (tok set) out vs ws s tr (Refused 14 s) tr
-  tok-no h e = unskip (tok-not h e)
+  pub tok-no : {set : List ℕ} {s : State} {tr : List ℕ} {ws : List Value} → s .at .0 ≤ eofAt toks → s .used ≡ textBefore src toks (s .at .0) → mem (symbolAt src toks (s .at .0)) set ≡ false → Comes src toks room (tok set) out vs ws s tr (Refused 14 s) tr
+  tok-no h u e = unskip (tok-not h u e)

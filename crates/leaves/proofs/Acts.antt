@@ -22,6 +22,7 @@ use Rattle.leaves.specs.declared.Added.{Added}
 use Rattle.leaves.specs.Tokens.{codeAt, startAt, endAt, textBefore, tokenOf, tokensOf}
 use Rattle.leaves.specs.Contract.{added, kept, Spot, Writes, Literals, Changes, Joins, Signed}
 use Rattle.leaves.specs.Put.{Put}
+use Rattle.leaves.proofs.Frames.{frame-put, frame-span, frame-next}
 use Rattle.leaves.proofs.Tokens.{token-is}
 
 -- a node that was put is written
@@ -57,7 +58,7 @@ module _ {toks tr : List ℕ} {s : State} (here : Spot toks tr s) where
 
     pub writes : (src : List ℕ) {x : Action} {ins : List Value} {n : Node} → Put s tr n a tr′
         → ((vs : List Value) → perform src (tokensOf src toks) x (kept s tr (ins ++ vs)) ≡ kept (added s) tr′ (node (s .nodes) ∷ vs)) → Writes src toks x ins s tr a tr′
-    writes src w e = record { node = w .node; after = w .after; same = e }
+    writes src w e = record { node = w .node; after = w .after; same = e; frame = frame-put w }
 
     pub named-wrote : {kind : ℕ} → Put s tr (made kind (startAt toks (s .at .0 - 1)) (endAt toks (s .at .0 - 1)) (startAt toks (s .at .0 - 1)) (endAt toks (s .at .0 - 1)) 0 0) a tr′ → (src : List ℕ) → Writes src toks (named kind) [] s tr a tr′
     unfolding perform
@@ -105,7 +106,7 @@ module _ {toks tr : List ℕ} {s : State} (here : Spot toks tr s) where
 
     -- the And of two nodes
     pub and-wrote : {x y : ℕ} → Put s tr (made kind.Binary (nodeAt tr x .start) (endAt toks (s .at .0 - 1)) (binaryOp code.And) x y 0) a tr′ → x < s .nodes → (src : List ℕ) → Joins src toks x y s tr a tr′
-    and-wrote w h src = record { node = w .node; after = w .after; same = λ v vs. as-put (begun-is src h) w 1 (v ∷ vs) }
+    and-wrote w h src = record { node = w .node; after = w .after; same = λ v vs. as-put (begun-is src h) w 1 (v ∷ vs); frame = frame-put w }
 
     -- the node of one sign
     pub unary-wrote : {op n : ℕ} → Put s tr (made kind.Unary (startAt toks op) (endAt toks (s .at .0 - 1)) (unaryOp (codeAt toks op)) n 0 0) a tr′ → op < s .at .0 → (src : List ℕ) → Signed src toks op n s tr a tr′
@@ -115,6 +116,7 @@ module _ {toks tr : List ℕ} {s : State} (here : Spot toks tr s) where
       after = w .after;
       same = λ vs.
           as-put (opened-is src h ∙ ap (λ (t : Token). made kind.Unary (startAt toks op) (endAt toks (s .at .0 - 1)) (unaryOp (t .code)) n 0 0) (earlier-is src h)) w 1 (node n ∷ vs);
+      frame = frame-put w;
     }
 
 -- a node that was put, by what was read for it
@@ -134,7 +136,7 @@ put-with {s} {tr} {kind = kind} {x} {y} {f = f} g h k w = putting (w .node) (w .
 pub group-changed : {toks tr tr′ : List ℕ} {s : State} {o n x y : ℕ} → Spot toks tr s → tr′ ≡ setSpan tr n x y → x ≡ startAt toks o → y ≡ endAt toks (s .at .0 - 1) → o < s .at .0 → n < s .nodes → (src : List ℕ)
     → Changes src toks group (node n ∷ token o ∷ []) (node n ∷ []) s tr tr′
 unfolding perform number
-group-changed {toks} {tr} {tr′} {s} {o} {n} here e d₁ d₂ g h src = record {
+group-changed {toks} {tr} {tr′} {s} {o} {n} {x} {y} here e d₁ d₂ g h src = record {
   same = λ vs.
       let l = here .last in
       let w = here .word in
@@ -142,6 +144,7 @@ group-changed {toks} {tr} {tr′} {s} {o} {n} here e d₁ d₂ g h src = record 
       ap (λ (x : Token). change n (spanned (x .start) (tokenAt src (tokensOf src toks) (s .at .0 - 1) .end)) k) (token-is src toks o (omega arith))
       ∙ ap (λ (x : Token). change n (spanned (startAt toks o) (x .end)) k) (token-is src toks (s .at .0 - 1) (omega arith))
       ∙ rw (e, d₁, d₂, nodes-span tr (s .nodes) n (startAt toks o) (endAt toks (s .at .0 - 1)) h (omega arith));
+  frame = frame-span n x y h e;
 }
 
 pub leaf-node : (x y : ℕ) {f : Leaf} {l m : Literal} → f ≡ leafOf l → l ≡ m → made (f .kind) x y (f .p) (f .q) 0 0 ≡ literalNode x y m
@@ -159,10 +162,11 @@ literal-wrote {src} {toks} {tr} {tr′} {s} {a} {u} {n} here w e d = record {
       ap (λ (t : Token). write 0 (literalNode (t .start) (t .end) (t .literal)) (kept s tr vs)) (token-is src toks (s .at .0 - 1) (omega arith))
       ∙ ap (λ (x : Node). write 0 x (kept s tr vs)) (sym d)
       ∙ rw (w .words, nodes-put tr (s .nodes) n (here .word), length-nodes tr (s .nodes));
+  frame = frame-put w;
 }
 
 -- two lists that were linked
 pub join-changed : {tr tr′ : List ℕ} {s : State} {x n : ℕ} → tr′ ≡ setNext tr x n → x < s .nodes → 8 * s .nodes + 8 ≤ length tr → (src toks : List ℕ) (f l : ℕ)
     → Changes src toks list-join (growing n l ∷ growing f x ∷ []) (growing f l ∷ []) s tr tr′
 unfolding perform number last both
-join-changed {tr} {tr′} {s} {x} {n} e h w src toks f l = record { same = λ vs. rw (e, nodes-next tr (s .nodes) x n h (omega arith)) }
+join-changed {tr} {tr′} {s} {x} {n} e h w src toks f l = record { same = λ vs. rw (e, nodes-next tr (s .nodes) x n h (omega arith)); frame = frame-next x n h e }

@@ -1,3 +1,4 @@
+pub mod Frames
 pub mod Tests
 pub mod Symbols
 pub mod Tokens

@@ -14,8 +14,9 @@ use Rattle.pyhyeon.specs.Action.{unaryNode, wrap}
 use Rattle.leaves.specs.declared.Added.{Added}
 use Rattle.leaves.specs.declared.State.{State}
 use Rattle.leaves.specs.Tokens.{eofAt, tokensOf, symbolAt}
-use Rattle.leaves.specs.Contract.{added, kept, Signed, Wraps}
+use Rattle.leaves.specs.Contract.{added, kept, Frame, Signed, Wraps}
 use Rattle.leaves.specs.Put.{Run}
+use Rattle.leaves.proofs.Frames.{frame-then}
 
 -- the tokens from t up to k are in the set
 pub record Passed (src toks set : List ℕ) (t k : ℕ) : Type 0 where
@@ -49,6 +50,7 @@ pub record Inv (toks tr₀ : List ℕ) (first k₀ : ℕ) (n₀ : NodeNumber) (s
   pub at : s₀ .at ≡ s .at
   pub opened : s₀ .opened ≡ s .opened
   pub used : s₀ .used ≡ s .used
+  pub frame : Frame (s₀ .nodes) tr₀ (s .nodes) tr
   pub same : (src : List ℕ) (vs : List Value)
       → wrap src (tokensOf src toks) (k₀ - first) first (kept s₀ tr₀ (Value.node (n₀ .0) ∷ vs)) ≡ wrap src (tokensOf src toks) (k - first) first (kept s tr (Value.node (n .0) ∷ vs))
 
@@ -79,6 +81,7 @@ module _ {toks tr₀ : List ℕ} {first k₀ : ℕ} {n₀ : NodeNumber} {s₀ : 
         at = i .at;
         opened = i .opened;
         used = i .used;
+        frame = frame-then (i .frame) (g [] .frame);
         same = λ src vs.
             i .same src vs ∙ wrap-last src toks first k _ l
             ∙ ap (wrap src (tokensOf src toks) (k - 1 - first) first) (g src .same vs ∙ ap (λ (m : ℕ). kept (added s) tr′ (Value.node m ∷ vs)) (sym p));
@@ -90,5 +93,6 @@ module _ {toks tr₀ : List ℕ} {first k₀ : ℕ} {n₀ : NodeNumber} {s₀ : 
     at = i .at;
     opened = i .opened;
     used = i .used;
+    frame = i .frame;
     same = λ vs. let e : k - first ≡ 0 = omega arith in i .same src vs ∙ rw e;
   }

@@ -4,7 +4,7 @@ use Prim.Native.Nat.{ℕ, _+_, _-_, _*_, _^_, _≤_, _<_}
 use mathlib.Core.Path.{_≡_}
 use mathlib.Core.Bool.{true}
 use mathlib.Core.List.{List, [], _∷_, _++_}
-use lib.ListN.{length, drop}
+use lib.ListN.{length, getD, drop}
 use Rattle.grammar.specs.Sets.{mem}
 use Rattle.grammar.specs.Grammar.{Part, _⨾_}
 use Rattle.grammar.specs.Trial.{St}
@@ -56,20 +56,33 @@ a-list n c = list n
 abbrev pub a-growing : Shape
 a-growing n c = growing n (c - 1)
 
+-- From n nodes to n′ no word of the tree was changed but those of nodes: not the header's, and none behind the nodes.
+pub record Frame (n : ℕ) (tr : List ℕ) (n′ : ℕ) (tr′ : List ℕ) : Type 0 where
+  pub grows : n ≤ n′
+  pub header : (w : ℕ) → w < 8 → getD tr′ w 0 ≡ getD tr w 0
+  pub behind : (w : ℕ) → 8 * n′ + 8 ≤ w → getD tr′ w 0 ≡ getD tr w 0
+
+-- the nodes that are written when an answer is given
+abbrev pub written : Parsed → ℕ
+written (Node n s) = s .nodes
+written (Refused k s) = s .nodes
+
 -- What the descent comes to, and the answer and the tree of the code: one value more at hand (`out` says which); or a refusal, 14 or 13, at the state's
--- token, with whatever is at hand. After a value the state has counted the text before its token.
+-- token, with whatever is at hand. The state has counted the text before its token.
 pub data Told (src toks : List ℕ) (out : Shape) (vs : List Value) : Answer (machine src (tokensOf src toks)) → Parsed → List ℕ → Type 0 where
   told-node : (n : NodeNumber) (s : State) (tr : List ℕ) → s .used ≡ textBefore src toks (s .at .0) → Told src toks out vs (done (s .opened) (state src toks s tr (out (n .0) (s .nodes) ∷ vs))) (Node n s) tr
-  told-no : (s : State) (tr : List ℕ) (ws : List Value) → Told src toks out vs (no (s .opened) (state src toks s tr ws)) (Refused 14 s) tr
-  told-deep : (s : State) (tr : List ℕ) (ws : List Value) → Told src toks out vs (deep (s .opened) (state src toks s tr ws)) (Refused 13 s) tr
+  told-no : (s : State) (tr : List ℕ) (ws : List Value) → s .used ≡ textBefore src toks (s .at .0) → Told src toks out vs (no (s .opened) (state src toks s tr ws)) (Refused 14 s) tr
+  told-deep : (s : State) (tr : List ℕ) (ws : List Value) → s .used ≡ textBefore src toks (s .at .0) → Told src toks out vs (deep (s .opened) (state src toks s tr ws)) (Refused 13 s) tr
 
 -- The answer is what the descent of the rule r comes to, from s on, with room for so many more E and Block, whatever values are at hand.
 pub record Rules (src toks : List ℕ) (room : ℕ) (r : Rule) (out : Shape) (s : State) (tr : List ℕ) (a : Parsed) (tr′ : List ℕ) : Type 0 where
   pub told : (vs : List Value) → Told src toks out vs (descend pyhyeon room r (s .opened) (state src toks s tr vs)) a tr′
+  pub frame : Frame (s .nodes) tr (written a) tr′
 
 -- The answer is what the part p of a rule comes to, from s on, with the values ws at hand; where it is not refused, one value more than vs is left.
 pub record Comes (src toks : List ℕ) (room : ℕ) (p : Part Action Rule) (out : Shape) (vs ws : List Value) (s : State) (tr : List ℕ) (a : Parsed) (tr′ : List ℕ) : Type 0 where
   pub told : Told src toks out vs (walk first (descend pyhyeon room) p (s .opened) (state src toks s tr ws)) a tr′
+  pub frame : Frame (s .nodes) tr (written a) tr′
 
 -- The same where the values `ins` are at hand and any others below them.
 pub record Parts (src toks : List ℕ) (room : ℕ) (p : Part Action Rule) (ins : List Value) (out : Shape) (s : State) (tr : List ℕ) (a : Parsed) (tr′ : List ℕ) : Type 0 where
@@ -101,34 +114,40 @@ pub record Writes (src toks : List ℕ) (x : Action) (ins : List Value) (s : Sta
   pub node : r .0 .0 ≡ s .nodes
   pub after : r .1 ≡ added s
   pub same : (vs : List Value) → perform src (tokensOf src toks) x (kept s tr (ins ++ vs)) ≡ kept (added s) tr′ (Value.node (s .nodes) ∷ vs)
+  pub frame : Frame (s .nodes) tr (s .nodes + 1) tr′
 
 -- The literal's leaf does the same for `literal`, and counts the literal's text.
 pub record Literals (src toks : List ℕ) (s : State) (tr : List ℕ) (r : Added) (tr′ : List ℕ) : Type 0 where
   pub node : r .0 .0 ≡ s .nodes
   pub after : r .1 ≡ record { at = s .at; nodes = s .nodes + 1; opened = s .opened; used = textBefore src toks (s .at .0) }
   pub same : (vs : List Value) → perform src (tokensOf src toks) literal (kept s tr vs) ≡ kept (added s) tr′ (Value.node (s .nodes) ∷ vs)
+  pub frame : Frame (s .nodes) tr (s .nodes + 1) tr′
 
 -- A leaf does the action x, which writes no node: the values `outs` take the place of `ins`.
 pub record Changes (src toks : List ℕ) (x : Action) (ins outs : List Value) (s : State) (tr tr′ : List ℕ) : Type 0 where
   pub same : (vs : List Value) → perform src (tokensOf src toks) x (kept s tr (ins ++ vs)) ≡ kept s tr′ (outs ++ vs)
+  pub frame : Frame (s .nodes) tr (s .nodes) tr′
 
 -- the And of the nodes x and y, which takes the place of the last value
 pub record Joins (src toks : List ℕ) (x y : ℕ) (s : State) (tr : List ℕ) (r : Added) (tr′ : List ℕ) : Type 0 where
   pub node : r .0 .0 ≡ s .nodes
   pub after : r .1 ≡ added s
   pub same : (v : Value) (vs : List Value) → binaryOf src (tokensOf src toks) 1 (binaryOp token.And) x y (kept s tr (v ∷ vs)) ≡ kept (added s) tr′ (Value.node (s .nodes) ∷ vs)
+  pub frame : Frame (s .nodes) tr (s .nodes + 1) tr′
 
 -- the node of one sign; and those of all signs from the token `first` up to `end`
 pub record Signed (src toks : List ℕ) (op child : ℕ) (s : State) (tr : List ℕ) (r : Added) (tr′ : List ℕ) : Type 0 where
   pub node : r .0 .0 ≡ s .nodes
   pub after : r .1 ≡ added s
   pub same : (vs : List Value) → write 1 (unaryNode src (tokensOf src toks) op (kept s tr (Value.node child ∷ vs))) (kept s tr (Value.node child ∷ vs)) ≡ kept (added s) tr′ (Value.node (s .nodes) ∷ vs)
+  pub frame : Frame (s .nodes) tr (s .nodes + 1) tr′
 
 pub record Wraps (src toks : List ℕ) (first end child : ℕ) (s : State) (tr : List ℕ) (r : Added) (tr′ : List ℕ) : Type 0 where
   pub at : s .at ≡ r .1 .at
   pub opened : s .opened ≡ r .1 .opened
   pub used : s .used ≡ r .1 .used
   pub same : (vs : List Value) → wrap src (tokensOf src toks) (end - first) first (kept s tr (Value.node child ∷ vs)) ≡ kept (r .1) tr′ (Value.node (r .0 .0) ∷ vs)
+  pub frame : Frame (s .nodes) tr (r .1 .nodes) tr′
 
 -- the signs stand before the state's token, and there is room for their nodes
 pub record Wrapping (toks tree : List ℕ) (first end : ℕ) (s : State) : Type 0 where

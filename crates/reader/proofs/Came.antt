@@ -63,8 +63,8 @@ module _ {src toks : List ℕ} (w : Tokens src toks) where
   told-came : {x : Answer (machine src (tokensOf src toks))} {a : Parsed} {tr : List ℕ} → Told src toks a-node [] x a tr → Ends Through Short x → Came toks (eofAt toks) (descended src (tokensOf src toks) x) a tr
   unfolding Through Short state Held Fit
   told-came (told-node n s tr u) (ends-done h) = rw (w .ends) (came-node n s tr (omega (arith, h .0, length-nodes tr (s .nodes))))
-  told-came (told-no s tr ws) (ends-no h) = rw (w .ends, ap (λ (t : Token). t .start) (token-is src toks (s .at .0) h)) (came-no s tr h)
-  told-came (told-deep s tr ws) (ends-deep h) = rw (w .ends, ap (λ (t : Token). t .start) (token-is src toks (s .at .0) h)) (came-deep s tr h)
+  told-came (told-no s tr ws u) (ends-no h) = rw (w .ends, ap (λ (t : Token). t .start) (token-is src toks (s .at .0) h)) (came-no s tr h)
+  told-came (told-deep s tr ws u) (ends-deep h) = rw (w .ends, ap (λ (t : Token). t .start) (token-is src toks (s .at .0) h)) (came-deep s tr h)
 
   came : {tr tr′ : List ℕ} {a : Parsed} → Rules src toks depth Program a-node begin tr a tr′ → Came toks (eofAt toks) (descent src (tokensOf src toks)) a tr′
   unfolding descent start state nodesOf

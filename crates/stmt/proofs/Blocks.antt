@@ -20,6 +20,7 @@ use Rattle.leaves.specs.declared.State.{State}
 use Rattle.leaves.specs.declared.Parsed.{Parsed}
 use Rattle.leaves.specs.declared.Parsed.the-variants.{Node, Refused}
 use Rattle.leaves.specs.Contract.{a-node, a-list, a-growing, Comes, Parts}
+use Rattle.leaves.proofs.Frames.{frame-none}
 use Rattle.joint.proofs.Chain.{_⨟_, is-used, act-last, part-then, part-stop, flat-then, flat-stop}
 use Rattle.joint.proofs.Ends.{list-last}
 use Rattle.joint.proofs.Counts.{Modest}
@@ -71,7 +72,7 @@ module _ {src toks : List ℕ} {room : ℕ} {p : Part Action Rule} {ins : List V
   one-through (Node n s₁) reads w vs =
       let l : n .0 + 1 ≡ s₁ .nodes = w .last n s₁ refl in
       let d : s₁ .nodes - 1 ≡ n .0 = omega arith in
-      flat-then reads refl (act-last {out = a-growing} (rw d refl) refl refl (is-used (reads .comes vs .told) refl))
+      flat-then reads refl (act-last {out = a-growing} (rw d refl) refl refl frame-none (is-used (reads .comes vs .told) refl))
   one-through (Refused k s₁) reads w vs = flat-stop _ vs reads refl
 
   -- a list in the making, as a whole one

@@ -17,6 +17,7 @@ use Rattle.leaves.specs.declared.Added.{Added}
 use Rattle.leaves.specs.Tokens.{startAt, endAt, tokensOf}
 use Rattle.leaves.specs.Contract.{added, kept, Spot, Writes}
 use Rattle.leaves.specs.Put.{Put}
+use Rattle.leaves.proofs.Frames.{frame-put, frame-span, frame-then}
 use Rattle.leaves.proofs.Acts.{put-is, taken-is, earlier-is, opened-is, begun-is, as-put, writes}
 
 -- A node from the token o on, where the action writes just that in place of its values.
@@ -47,7 +48,7 @@ still here e = record { some = here .some; token = here .token; last = here .las
 pub assign-wrote : {toks tr tr₁ tr′ : List ℕ} {s : State} {a : Added} {x v from to : ℕ} → Spot toks tr s → tr₁ ≡ setSpan tr x from to → from ≡ nodeAt tr x .start → to ≡ endAt toks (s .at .0 - 1)
     → Put s tr₁ (made kind.Assign (nodeAt tr₁ x .start) (endAt toks (s .at .0 - 1)) x v 0 0) a tr′ → x < s .nodes → (src : List ℕ) → Writes src toks assign (node v ∷ node x ∷ []) s tr a tr′
 unfolding perform number
-assign-wrote {toks} {tr} {tr₁} {tr′} {s} {a} {x} {v} {from} {to} here e d₁ d₂ w h src = record { node = w .node; after = w .after; same = go }
+assign-wrote {toks} {tr} {tr₁} {tr′} {s} {a} {x} {v} {from} {to} here e d₁ d₂ w h src = record { node = w .node; after = w .after; same = go; frame = frame-then (frame-span x from to h e) (frame-put w) }
   where
     there : Spot toks tr₁ s
     there = still here (ap length e ∙ length-span tr x from to)
@@ -76,4 +77,4 @@ assign-wrote {toks} {tr} {tr₁} {tr′} {s} {a} {x} {v} {from} {to} here e d₁
 -- the Program of a whole source
 pub program-wrote : {src tr tr′ : List ℕ} {s : State} {a : Added} {f : ℕ} → 8 * s .nodes + 16 ≤ length tr → Put s tr (made kind.Program 0 (length src) f 0 0 0) a tr′ → (toks : List ℕ) → Writes src toks program (list f ∷ []) s tr a tr′
 unfolding perform number
-program-wrote room w toks = record { node = w .node; after = w .after; same = put-is room w 0 }
+program-wrote room w toks = record { node = w .node; after = w .after; same = put-is room w 0; frame = frame-put w }

@@ -56,7 +56,7 @@ returns-2 c =
     let at-start = at-symbol-at .before .before .before .before .before in
     let r = at-start .pre .0 in
     let e = learnt (code.RParen ∷ []) (c .if1 .left) (at-is-symbol .is-symbol .ensures) (at-symbol-at .symbol-at .ensures) in
-    record { comes = λ vs. tok-not (r .here) e }
+    record { comes = λ vs. tok-not (r .here) (r .used) e }
 
 pub unit-spec : {M : Type 1} → statement M
 unit-spec =

@@ -49,7 +49,7 @@ returns-3 c =
     let at-symbol-at = c .before in
     let at-start = at-symbol-at .before .before .before .before in
     let h = at-start .pre .1 .0 in
-    λ room tr. record { comes = λ vs. or-next h (not-first 48 [] (at-symbol-at .symbol-at .ensures) (c .match .rest .0 .1)) (see-no h (not-first 49 [] (at-symbol-at .symbol-at .ensures) (c .match .rest .1))) }
+    λ room tr. record { comes = λ vs. or-next h (not-first 48 [] (at-symbol-at .symbol-at .ensures) (c .match .rest .0 .1)) (see-no h (at-start .pre .1 .1) (not-first 49 [] (at-symbol-at .symbol-at .ensures) (c .match .rest .1))) }
 
 pub line-end-spec : {M : Type 1} → statement M
 line-end-spec = tie.close (tie.spec symbol-at-requires add-t returns returns-2 returns-3)

@@ -94,7 +94,7 @@ returns-3 c =
     let at-start = at-symbol-at .before .before .before .before .before in
     let r = at-start .pre in
     let b = learnt firstSimple (c .if1 .left) (at-begins-simple .begins-simple .ensures) (at-symbol-at .symbol-at .ensures) in
-    record { comes = λ vs. part-stop _ (not-called (r .here) b) refl }
+    record { comes = λ vs. part-stop _ (not-called (r .here) (r .used) b) refl }
 
 pub simples-spec : {M : Type 1} → statement M
 simples-spec =

@@ -45,7 +45,7 @@ returns-2 c =
     let at-start = at-symbol-at .before .before .before .before in
     let h = at-start .pre .1 .0 in
     let e = learnt (code.Dedent ∷ []) (c .if1 .left) (at-is-symbol .is-symbol .ensures) (at-symbol-at .symbol-at .ensures) in
-    λ room tr. record { comes = λ vs. tok-no h e }
+    λ room tr. record { comes = λ vs. tok-no h (at-start .pre .1 .1) e }
 
 pub dedent-spec : {M : Type 1} → statement M
 dedent-spec = tie.close (tie.spec symbol-at-requires is-symbol-requires add-t returns returns-2)

@@ -109,7 +109,7 @@ module _ (t : ℕ) where
       let r = at-start .pre .1 .0 in
       let g = after-list _ _ (r .tokens) modest-list (r .here) (at-items .items .ensures) (at-inner .inner .given .1) in
       let e = learnt (code.RParen ∷ []) (c .if1 .left) (at-is-symbol .is-symbol .ensures) (at-symbol-at .symbol-at .ensures) in
-      record { comes = λ vs. part-then (at-items .items .ensures) (at-inner .inner .given .1) (tok-not (g .here) e) }
+      record { comes = λ vs. part-then (at-items .items .ensures) (at-inner .inner .given .1) (tok-not (g .here) (g .used) e) }
 
   same-length-3 : lts.Need-same-length-3 (calls t) (args-at t) reads.Post
   same-length-3 c = search needs

@@ -126,7 +126,7 @@ module _ (t : ℕ) where
       let at-start = at-symbol-at .before .before .before .before .before in
       let r = at-start .pre .1 .0 in
       let b = learnt firstU (c .if1 .left) (at-begins-u .begins-u .ensures) (at-symbol-at .symbol-at .ensures) in
-      record { comes = λ vs. part-stop _ (not-called (r .here) b) refl }
+      record { comes = λ vs. part-stop _ (not-called (r .here) (r .used) b) refl }
 
   pub meets : {M : Type 1} → lts.Closed (calls t) (cmp-at t) reads.Post M
   meets = lts.spec (calls t) (cmp-at t) reads.Post symbol-at-requires begins-u-requires rule-s-requires enum-known-right put-binary-requires cmps-requires enum-known-right-2 same-length returns same-length-2 returns-2 returns-3

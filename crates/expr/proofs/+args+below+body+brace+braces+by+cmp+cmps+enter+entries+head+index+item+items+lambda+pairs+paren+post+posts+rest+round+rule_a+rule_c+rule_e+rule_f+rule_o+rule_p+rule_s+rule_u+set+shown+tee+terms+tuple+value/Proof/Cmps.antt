@@ -15,7 +15,7 @@ use Rattle.leaves.proofs.Tests.{learnt}
 use Rattle.pyhyeon.specs.Tables.{first, firstU, rank}
 use Rattle.grammar.specs.Descent.{null, begins}
 use mathlib.Core.List.{[], _∷_}
-use mathlib.Core.Path.{refl}
+use mathlib.Core.Path.{refl, sym, _∙_}
 use borrow.Author.Needs.{needs}
 use native.Mathlib.Omega.{arith}
 use Prim.Native.Nat.{ℕ}
@@ -238,7 +238,7 @@ module _ (t : ℕ) where
       let e = learnt comparisons (at-if1 .if1 .taken) (at-is-comparison .is-comparison .ensures) (at-symbol-at .symbol-at .ensures) in
       let l = took comparisons refl refl (i .ready .tokens) (i .ready .here) e in
       let b = learnt firstU (c .if2 .left) (at-begins-u .begins-u .ensures) (at-symbol-at2 .symbol-at2 .ensures) in
-      record { comes = λ vs. i .same vs (many-on low-further (i .ready .here) e (tok-mark (i .ready .here) e (part-stop _ (not-called (l .inside) b) refl))) }
+      record { comes = λ vs. i .same vs (many-on low-further (i .ready .here) e (tok-mark (i .ready .here) e (part-stop _ (not-called (l .inside) (i .ready .used ∙ sym (l .text)) b) refl))) }
 
   same-length-3 : lts.Need-same-length-3 (calls t) (cmps-at t) reads.Post Inv-loop μ-loop
   same-length-3 c = omega arith

@@ -56,7 +56,7 @@ module _ (t : ℕ) where
       let at-symbol-at = at-begins-e .before in
       let at-start = at-symbol-at .before .before .before .before .before in
       let e = learnt firstE (c .if1 .left) (at-begins-e .begins-e .ensures) (at-symbol-at .symbol-at .ensures) in
-      not-called (at-start .pre .1 .here) e
+      not-called (at-start .pre .1 .here) (at-start .pre .1 .used) e
 
   pub meets : {M : Type 1} → lts.Closed (calls t) (enter-at t) reads.Post M
   meets = lts.spec (calls t) (enter-at t) reads.Post symbol-at-requires begins-e-requires rule-e-requires same-length returns returns-2

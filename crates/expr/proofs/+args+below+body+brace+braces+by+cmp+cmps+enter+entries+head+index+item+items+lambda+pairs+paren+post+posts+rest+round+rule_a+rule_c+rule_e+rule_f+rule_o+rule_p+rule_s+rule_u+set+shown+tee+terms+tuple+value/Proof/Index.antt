@@ -108,7 +108,7 @@ module _ (t : ℕ) where
       let r = at-start .pre .1 .0 in
       let g = after-call _ _ (r .tokens) spares-e refl (r .here) (at-enter .enter .ensures) (at-inner .inner .given .1) in
       let e = learnt (code.RBracket ∷ []) (c .if1 .left) (at-is-symbol .is-symbol .ensures) (at-symbol-at .symbol-at .ensures) in
-      record { comes = λ vs. part-then (at-enter .enter .ensures) (at-inner .inner .given .1) (tok-not (g .here) e) }
+      record { comes = λ vs. part-then (at-enter .enter .ensures) (at-inner .inner .given .1) (tok-not (g .here) (g .used) e) }
 
   same-length-3 : lts.Need-same-length-3 (calls t) (index-at t) reads.Post
   same-length-3 c = search needs

@@ -110,7 +110,7 @@ module _ (t : ℕ) where
       let lt = before-eof firstE refl (r .tokens) (r .here) (at-start .pre .1 .1 .seen) in
       let g = after-rule _ _ (r .tokens) spares-e lt (at-rule-e .rule-e .ensures) (at-inner .inner .given .1) in
       let e = learnt (code.Colon ∷ []) (c .if1 .left) (at-is-symbol .is-symbol .ensures) (at-symbol-at .symbol-at .ensures) in
-      record { comes = λ vs. part-then (called (r .here) (at-start .pre .1 .1 .seen) (at-rule-e .rule-e .ensures)) (at-inner .inner .given .1) (tok-not (g .here) e) }
+      record { comes = λ vs. part-then (called (r .here) (at-start .pre .1 .1 .seen) (at-rule-e .rule-e .ensures)) (at-inner .inner .given .1) (tok-not (g .here) (g .used) e) }
 
   same-length-3 : lts.Need-same-length-3 (calls t) (item-at t) reads.Post
   same-length-3 c = search needs

@@ -89,7 +89,7 @@ module _ (t : ℕ) where
       let r = at-start .pre .1 .0 in
       let g = after-list _ _ (r .tokens) modest-parameters (r .here) (at-names .names .ensures 0) refl in
       let e = learnt (code.Colon ∷ []) (c .if1 .left) (at-is-symbol .is-symbol .ensures) (at-symbol-at .symbol-at .ensures) in
-      record { comes = λ vs. part-then (at-names .names .ensures _) refl (tok-not (g .here) e) }
+      record { comes = λ vs. part-then (at-names .names .ensures _) refl (tok-not (g .here) (g .used) e) }
 
   pub meets : {M : Type 1} → lts.Closed (calls t) (lambda-at t) reads.Post M
   meets = lts.spec (calls t) (lambda-at t) reads.Post names-requires symbol-at-requires is-symbol-requires add-t body-requires same-length returns same-length-2 returns-2

@@ -108,7 +108,7 @@ module _ (t : ℕ) where
       let r = at-start .pre .1 .0 in
       let e = learnt (code.RParen ∷ []) (at-if1 .if1 .left) (at-is-symbol .is-symbol .ensures) (at-symbol-at .symbol-at .ensures) in
       let k = learnt (code.Comma ∷ []) (c .if2 .left) (at-is-symbol2 .is-symbol2 .ensures) (at-symbol-at .symbol-at .ensures) in
-      record { comes = λ vs. or-next (r .here) e (tok-not (r .here) k) }
+      record { comes = λ vs. or-next (r .here) e (tok-not (r .here) (r .used) k) }
 
   pub meets : {M : Type 1} → lts.Closed (calls t) (paren-at t) reads.Post M
   meets = lts.spec (calls t) (paren-at t) reads.Post symbol-at-requires is-symbol-requires add-t widen-requires is-symbol-requires-2 add-t-2 tuple-requires same-length returns same-length-2 returns-2 returns-3

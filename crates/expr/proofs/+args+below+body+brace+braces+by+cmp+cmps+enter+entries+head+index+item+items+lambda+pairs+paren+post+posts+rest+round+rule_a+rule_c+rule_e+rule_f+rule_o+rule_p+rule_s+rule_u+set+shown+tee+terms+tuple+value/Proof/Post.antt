@@ -105,7 +105,7 @@ module _ (t : ℕ) where
       let l = took (code.Dot ∷ code.LParen ∷ code.LBracket ∷ []) refl refl (r .tokens) (r .here) (at-start .pre .1 .1 .1) in
       let e = coded (code.Dot ∷ []) 45 (at-symbol-at .symbol-at .ensures) (at-match .match .keys1) refl in
       let n = learnt names (c .if1 .left) (at-is-name .is-name .ensures) (at-symbol-at2 .symbol-at2 .ensures) in
-      record { comes = λ vs. or-first (r .here) e (tok-then (r .here) e (tok-not (l .inside) n)) }
+      record { comes = λ vs. or-first (r .here) e (tok-then (r .here) e (tok-not (l .inside) (r .used ∙ sym (l .text)) n)) }
 
   same-length-2 : lts.Need-same-length-2 (calls t) (post-at t) reads.Post
   same-length-2 c = search needs

@@ -153,7 +153,7 @@ module _ (t : ℕ) where
       let r = at-start .pre .1 .0 in
       let b = learnt firstE (at-if1 .if1 .left) (at-begins-e .begins-e .ensures) (at-symbol-at .symbol-at .ensures) in
       let e = learnt (code.RParen ∷ []) (c .if2 .left) (at-is-symbol .is-symbol .ensures) (at-symbol-at2 .symbol-at2 .ensures) in
-      record { comes = λ vs. or-next (r .here) b (tok-not (r .here) e) }
+      record { comes = λ vs. or-next (r .here) b (tok-not (r .here) (r .used) e) }
 
   pub meets : {M : Type 1} → lts.Closed (calls t) (round-at t) reads.Post M
   meets = lts.spec (calls t) (round-at t) reads.Post symbol-at-requires begins-e-requires rule-e-requires enum-known-inner paren-requires enum-known-inner-2 symbol-at-requires-2 is-symbol-requires add-t unit-requires same-length returns same-length-2 returns-2 same-length-3 returns-3 returns-4

@@ -10,7 +10,7 @@ use Rattle.leaves.proofs.Tokens.{before-eof}
 use Rattle.leaves.proofs.Tests.{learnt}
 use Rattle.pyhyeon.specs.Tables.{joined, first, firstF, rank, opens}
 use Rattle.pyhyeon.specs.Rules.{plain}
-use mathlib.Core.Path.{refl}
+use mathlib.Core.Path.{refl, sym, _∙_}
 use borrow.Author.Needs.{needs}
 use native.Mathlib.Omega.{arith}
 use Prim.Native.Nat.{ℕ}
@@ -126,9 +126,11 @@ module _ (t : ℕ) where
       let at-begins-f = c .before in
       let at-symbol-at = at-begins-f .before in
       let at-skip-signs = at-symbol-at .before in
+      let at-start = at-skip-signs .before .before .before .before .before .before in
+      let r = at-start .pre .1 .0 in
       let k = at-skip-signs .skip-signs .ensures in
       let e = learnt firstF (c .if1 .left) (at-begins-f .begins-f .ensures) (at-symbol-at .symbol-at .ensures) in
-      open-plain refl (λ vs. signs-then (signs-pass k (part-stop _ (not-called (k .inside) e) refl)))
+      open-plain refl (λ vs. signs-then (signs-pass k (part-stop _ (not-called (k .inside) (r .used ∙ sym (run-text signSet refl refl (r .tokens) k)) e) refl)))
 
   pub meets : {M : Type 1} → lts.Closed (calls t) (rule-u-at t) reads.Post M
   meets = lts.spec (calls t) (rule-u-at t) reads.Post add-opened skip-signs-requires symbol-at-requires begins-f-requires rule-f-requires enum-known-inner wrap-requires enum-known-inner-2 same-length returns same-length-2 returns-2 returns-3

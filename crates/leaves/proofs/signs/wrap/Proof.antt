@@ -2,6 +2,7 @@
 -- Assumes nothing.
 use mathlib.Core.Path.{refl}
 use native.Mathlib.Omega.{arith}
+use Rattle.leaves.proofs.Frames.{frame-none}
 use Rattle.leaves.proofs.SignRuns.{Inv, wrap-one, wrap-all}
 use Rattle.leaves.proofs.signs.wrap.Statement.{statement}
 use Rattle.leaves.proofs.signs.wrap.Tie as tie
@@ -24,6 +25,7 @@ loop-holds c = record {
   at = refl;
   opened = refl;
   used = refl;
+  frame = frame-none;
   same = λ src vs. refl;
 }
 

@@ -60,7 +60,7 @@ module _ (t : ℕ) where
       let at-start = at-symbol-at .before .before .before .before .before in
       let r = at-start .pre .1 in
       let e = learnt (code.Colon ∷ []) (c .if1 .left) (at-is-symbol .is-symbol .ensures) (at-symbol-at .symbol-at .ensures) in
-      no-call (r .here) e
+      no-call (r .here) (r .used) e
 
   pub meets : {M : Type 1} → lts.Closed (calls t) (block-at t) reads.Post M
   meets = lts.spec (calls t) (block-at t) reads.Post symbol-at-requires is-symbol-requires rule-block-requires same-length returns returns-2

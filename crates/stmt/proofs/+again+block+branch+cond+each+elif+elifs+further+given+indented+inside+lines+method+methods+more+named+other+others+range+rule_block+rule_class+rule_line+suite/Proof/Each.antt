@@ -8,7 +8,7 @@ use Rattle.leaves.proofs.Tokens.{took}
 use Rattle.leaves.proofs.Tests.{learnt}
 use Rattle.pyhyeon.specs.Rules.{names}
 use Rattle.token.specs.Code as code
-use mathlib.Core.Path.{refl}
+use mathlib.Core.Path.{refl, sym, _∙_}
 use mathlib.Core.List.{[], _∷_}
 use borrow.Author.Needs.{needs}
 use native.Mathlib.Omega.{arith}
@@ -103,7 +103,7 @@ module _ (t : ℕ) where
       let e = learnt names (at-if1 .if1 .taken) (at-is-name .is-name .ensures) (at-symbol-at .symbol-at .ensures) in
       let l = took names refl refl (r .tokens) (r .here) e in
       let i = learnt (code.In ∷ []) (c .if2 .left) (at-is-symbol .is-symbol .ensures) (at-symbol-at2 .symbol-at2 .ensures) in
-      (record { comes = λ vs. flat (tok-mark (r .here) e (tok-not (l .inside) i)) }, newest-refused)
+      (record { comes = λ vs. flat (tok-mark (r .here) e (tok-not (l .inside) (r .used ∙ sym (l .text)) i)) }, newest-refused)
 
   returns-3 : lts.Need-returns-3 (calls t) (each-at t) reads.Post
   returns-3 c =
@@ -112,7 +112,7 @@ module _ (t : ℕ) where
       let at-start = at-symbol-at .before .before .before .before .before in
       let r = at-start .pre .1 .0 in
       let e = learnt names (c .if1 .left) (at-is-name .is-name .ensures) (at-symbol-at .symbol-at .ensures) in
-      (record { comes = λ vs. flat (tok-not (r .here) e) }, newest-refused)
+      (record { comes = λ vs. flat (tok-not (r .here) (r .used) e) }, newest-refused)
 
   pub meets : {M : Type 1} → lts.Closed (calls t) (each-at t) reads.Post M
   meets = lts.spec (calls t) (each-at t) reads.Post symbol-at-requires is-name-requires add-t symbol-at-requires-2 is-symbol-requires add-u range-requires same-length returns returns-2 returns-3

@@ -150,7 +150,7 @@ module _ (t : ℕ) where
       let r = at-start .pre .1 .0 in
       let g = after-list _ _ (r .tokens) modest-parameters (r .here) (at-names .names .ensures 0) refl in
       let e = learnt (code.RParen ∷ []) (c .if1 .left) (at-is-symbol .is-symbol .ensures) (at-symbol-at .symbol-at .ensures) in
-      (record { comes = λ vs. part-then (at-names .names .ensures _) refl (tok-not (g .here) e) }, newest-refused)
+      (record { comes = λ vs. part-then (at-names .names .ensures _) refl (tok-not (g .here) (g .used) e) }, newest-refused)
 
   pub meets : {M : Type 1} → lts.Closed (calls t) (given-at t) reads.Post M
   meets = lts.spec (calls t) (given-at t) reads.Post names-requires symbol-at-requires is-symbol-requires add-t block-requires enum-known-body put-def-requires enum-known-body-2 same-length returns same-length-2 returns-2 same-length-3 returns-3

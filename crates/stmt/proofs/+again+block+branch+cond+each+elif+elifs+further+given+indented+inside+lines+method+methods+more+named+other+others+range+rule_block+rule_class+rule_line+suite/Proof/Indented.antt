@@ -103,7 +103,7 @@ module _ (t : ℕ) where
       let at-start = at-symbol-at .before .before .before .before .before in
       let r = at-start .pre .1 in
       let e = learnt (code.Indent ∷ []) (c .if1 .left) (at-is-symbol .is-symbol .ensures) (at-symbol-at .symbol-at .ensures) in
-      record { comes = λ vs. tok-not (r .here) e }
+      record { comes = λ vs. tok-not (r .here) (r .used) e }
 
   pub meets : {M : Type 1} → lts.Closed (calls t) (indented-at t) reads.Post M
   meets = lts.spec (calls t) (indented-at t) reads.Post symbol-at-requires is-symbol-requires add-t inside-requires enum-known-body dedent-requires enum-known-body-2 same-length returns same-length-2 returns-2 returns-3

@@ -144,7 +144,7 @@ module _ (t : ℕ) where
       let at-start = at-symbol-at .before .before .before .before .before in
       let r = at-start .pre .1 in
       let b = learnt firstLine (c .if1 .left) (at-begins-line .begins-line .ensures) (at-symbol-at .symbol-at .ensures) in
-      record { comes = λ vs. part-stop {mid = a-growing} _ (no-call (r .here) b) refl }
+      record { comes = λ vs. part-stop {mid = a-growing} _ (no-call (r .here) (r .used) b) refl }
 
   pub meets : {M : Type 1} → lts.Closed (calls t) (lines-at t) reads.Post M
   meets = lts.spec (calls t) (lines-at t) reads.Post symbol-at-requires begins-line-requires rule-line-requires enum-known-head sub-k skip-newlines-requires more-requires enum-known-head-2 same-length returns same-length-2 returns-2 returns-3

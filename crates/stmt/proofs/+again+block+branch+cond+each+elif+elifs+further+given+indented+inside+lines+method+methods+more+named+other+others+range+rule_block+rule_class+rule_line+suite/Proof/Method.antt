@@ -66,7 +66,7 @@ module _ (t : ℕ) where
       let at-start = at-symbol-at .before .before .before .before .before in
       let r = at-start .pre .1 in
       let e = learnt (code.Def ∷ []) (c .if1 .left) (at-is-symbol .is-symbol .ensures) (at-symbol-at .symbol-at .ensures) in
-      record { comes = λ vs. tok-not (r .here) e }
+      record { comes = λ vs. tok-not (r .here) (r .used) e }
 
   pub meets : {M : Type 1} → lts.Closed (calls t) (method-at t) reads.Post M
   meets = lts.spec (calls t) (method-at t) reads.Post symbol-at-requires is-symbol-requires add-t named-requires same-length returns returns-2

@@ -109,7 +109,7 @@ module _ (t : ℕ) where
       let at-start = at-symbol-at .before .before .before .before .before in
       let r = at-start .pre .1 .0 in
       let e = learnt (code.Indent ∷ []) (c .if1 .left) (at-is-symbol .is-symbol .ensures) (at-symbol-at .symbol-at .ensures) in
-      (record { comes = λ vs. tok-not (r .here) e }, newest-refused)
+      (record { comes = λ vs. tok-not (r .here) (r .used) e }, newest-refused)
 
   pub meets : {M : Type 1} → lts.Closed (calls t) (methods-at t) reads.Post M
   meets = lts.spec (calls t) (methods-at t) reads.Post symbol-at-requires is-symbol-requires add-t method-requires enum-known-one others-requires enum-known-one-2 same-length returns same-length-2 returns-2 returns-3

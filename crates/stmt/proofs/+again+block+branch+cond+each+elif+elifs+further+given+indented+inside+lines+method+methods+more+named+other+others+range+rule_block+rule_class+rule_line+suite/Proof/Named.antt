@@ -1,6 +1,6 @@
 -- `stmt::named`, a member of the cycle.
 -- Assumes nothing.
-use mathlib.Core.Path.{refl}
+use mathlib.Core.Path.{refl, sym, _∙_}
 use mathlib.Core.List.{[], _∷_}
 use Rattle.token.specs.Code as code
 use Rattle.pyhyeon.specs.Rules.{names}
@@ -102,7 +102,7 @@ module _ (t : ℕ) where
       let d = learnt names (at-if1 .if1 .taken) (at-is-name .is-name .ensures) (at-symbol-at .symbol-at .ensures) in
       let k = took names refl refl (r .tokens) (r .here) d in
       let e = learnt (code.LParen ∷ []) (c .if2 .left) (at-is-symbol .is-symbol .ensures) (at-symbol-at2 .symbol-at2 .ensures) in
-      (record { comes = λ vs. flat (tok-mark (r .here) d (tok-not (k .inside) e)) }, newest-refused)
+      (record { comes = λ vs. flat (tok-mark (r .here) d (tok-not (k .inside) (r .used ∙ sym (k .text)) e)) }, newest-refused)
 
   returns-3 : lts.Need-returns-3 (calls t) (named-at t) reads.Post
   returns-3 c =
@@ -111,7 +111,7 @@ module _ (t : ℕ) where
       let at-start = at-symbol-at .before .before .before .before .before in
       let r = at-start .pre .1 .0 in
       let d = learnt names (c .if1 .left) (at-is-name .is-name .ensures) (at-symbol-at .symbol-at .ensures) in
-      (record { comes = λ vs. flat (tok-not (r .here) d) }, newest-refused)
+      (record { comes = λ vs. flat (tok-not (r .here) (r .used) d) }, newest-refused)
 
   pub meets : {M : Type 1} → lts.Closed (calls t) (named-at t) reads.Post M
   meets = lts.spec (calls t) (named-at t) reads.Post symbol-at-requires is-name-requires add-t symbol-at-requires-2 is-symbol-requires add-u given-requires same-length returns returns-2 returns-3

@@ -88,7 +88,9 @@ module _ (t : ℕ) where
 
   returns : lts.Need-returns (calls t) (rule-block-at t) reads.Post
   unfolding opens
-  returns c = open-deep refl (c .if1 .taken)
+  returns c =
+      let at-start = c .before .before .before .before in
+      open-deep refl (at-start .pre .1 .0 .used) (c .if1 .taken)
 
   same-length : lts.Need-same-length (calls t) (rule-block-at t) reads.Post
   same-length c = search needs

@@ -1,6 +1,6 @@
 -- `stmt::rule_class`, a member of the cycle.
 -- Assumes nothing.
-use mathlib.Core.Path.{refl}
+use mathlib.Core.Path.{refl, sym, _∙_}
 use mathlib.Core.List.{[], _∷_}
 use Rattle.token.specs.Code as code
 use Rattle.pyhyeon.specs.Rules.{plain, names}
@@ -85,7 +85,7 @@ module _ (t : ℕ) where
       let d = at-start .pre .1 .1 .seen in
       let k = took (code.Class ∷ []) refl refl (r .tokens) (r .here) d in
       let e = learnt names (c .if1 .left) (at-is-name .is-name .ensures) (at-symbol-at .symbol-at .ensures) in
-      (open-plain refl (λ vs. tok-mark (r .here) d (flat (tok-not (k .inside) e))), newest-refused)
+      (open-plain refl (λ vs. tok-mark (r .here) d (flat (tok-not (k .inside) (r .used ∙ sym (k .text)) e))), newest-refused)
 
   pub meets : {M : Type 1} → lts.Closed (calls t) (rule-class-at t) reads.Post M
   meets = lts.spec (calls t) (rule-class-at t) reads.Post add-opened add-t symbol-at-requires is-name-requires add-u suite-requires same-length returns returns-2

@@ -1,6 +1,6 @@
 -- `stmt::suite`, a member of the cycle.
 -- Assumes nothing.
-use mathlib.Core.Path.{refl}
+use mathlib.Core.Path.{refl, sym, _∙_}
 use mathlib.Core.List.{[], _∷_}
 use Rattle.token.specs.Code as code
 use Rattle.leaves.proofs.Tests.{learnt}
@@ -120,7 +120,7 @@ module _ (t : ℕ) where
       let d = learnt (code.Colon ∷ []) (at-if1 .if1 .taken) (at-is-symbol .is-symbol .ensures) (at-symbol-at .symbol-at .ensures) in
       let k = took (code.Colon ∷ []) refl refl (r .tokens) (r .here) d in
       let e = learnt (code.Newline ∷ []) (c .if2 .left) (at-is-symbol2 .is-symbol2 .ensures) (at-symbol-at2 .symbol-at2 .ensures) in
-      (record { comes = λ vs. tok-then (r .here) d (tok-not (k .inside) e) }, newest-refused)
+      (record { comes = λ vs. tok-then (r .here) d (tok-not (k .inside) (r .used ∙ sym (k .text)) e) }, newest-refused)
 
   returns-3 : lts.Need-returns-3 (calls t) (suite-at t) reads.Post
   returns-3 c =
@@ -129,7 +129,7 @@ module _ (t : ℕ) where
       let at-start = at-symbol-at .before .before .before .before .before in
       let r = at-start .pre .1 .0 in
       let d = learnt (code.Colon ∷ []) (c .if1 .left) (at-is-symbol .is-symbol .ensures) (at-symbol-at .symbol-at .ensures) in
-      (record { comes = λ vs. tok-not (r .here) d }, newest-refused)
+      (record { comes = λ vs. tok-not (r .here) (r .used) d }, newest-refused)
 
   pub meets : {M : Type 1} → lts.Closed (calls t) (suite-at t) reads.Post M
   meets = lts.spec (calls t) (suite-at t) reads.Post symbol-at-requires is-symbol-requires add-t symbol-at-requires-2 is-symbol-requires-2 add-u skip-newlines-requires methods-requires same-length returns returns-2 returns-3

@@ -46,7 +46,7 @@ returns-2 c =
     let at-start = at-symbol-at .before .before .before .before .before in
     let r = at-start .pre in
     let e = learnt (code.Eof ∷ []) (c .if1 .left) (at-is-symbol .is-symbol .ensures) (at-symbol-at .symbol-at .ensures) in
-    λ room. record { comes = λ vs. see-not (r .here) e }
+    λ room. record { comes = λ vs. see-not (r .here) (r .used) e }
 
 pub end-spec : {M : Type 1} → statement M
 end-spec =
