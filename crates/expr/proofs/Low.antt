@@ -1,16 +1,18 @@
 -- What is repeated takes a token, and the parts that functions have for themselves pass the tests of their bounds.
 -- Assumes nothing.
 use lib.Dec.{T}
+use mathlib.Core.Path.{_≡_, refl}
+use mathlib.Core.Bool.{Bool, true, false}
 use Rattle.grammar.specs.Grammar.{many}
+use Rattle.grammar.specs.Descent.{null, begins}
 use Rattle.grammar.specs.Check.{low, takes}
 use Rattle.grammar.specs.Limits.{clean, credit, afford}
-use Rattle.pyhyeon.specs.Rules.{list, more, entry, postfix, parameters, rest}
-use Rattle.pyhyeon.specs.Tables.{least, rank, first, primary, pyhyeon}
-use Rattle.pyhyeon.specs.Prices.{writes, needs, gives, prices}
+use Rattle.pyhyeon.specs.Rules.{list, more, postfix, parameters}
+use Rattle.pyhyeon.specs.Tables.{least, rank, first, firstE, primary, pyhyeon}
+use Rattle.pyhyeon.specs.Prices.{writes, needs, gives}
 use Rattle.joint.proofs.Bounds.{Bounded}
 use Rattle.joint.proofs.Counts.{Modest}
-use Rattle.expr.specs.Parts.{further, others, name, valued}
-use Rattle.grammar.specs.Grammar.{call}
+use Rattle.expr.specs.Parts.{further, member, name, valued}
 use Rattle.pyhyeon.specs.Rules.{E}
 
 pub low-further : T (low pyhyeon 100 100 (many further))
@@ -21,13 +23,21 @@ pub low-postfix : T (low pyhyeon 100 100 (many postfix))
 unfolding low takes least rank
 low-postfix = tt
 
-pub low-others : T (low pyhyeon 100 100 (more (call E)))
+-- the members of lists, E and pairs
+pub low-member : (paired : Bool) → T (low pyhyeon 100 100 (more (member paired)))
 unfolding low takes least rank
-low-others = tt
+low-member true = tt
+low-member false = tt
 
-pub low-entries : T (low pyhyeon 100 100 (more entry))
-unfolding low takes least rank
-low-entries = tt
+pub begins-member : (paired : Bool) → begins first (more (member paired)) ≡ firstE
+unfolding begins null first
+begins-member true = refl
+begins-member false = refl
+
+pub bounded-member : (paired : Bool) → Bounded 8 (member paired)
+unfolding takes clean low afford credit first least rank writes needs gives
+bounded-member true = record { few = tt; some = tt; tidy = tt; lower = tt; pays = tt; spared = tt }
+bounded-member false = record { few = tt; some = tt; tidy = tt; lower = tt; pays = tt; spared = tt }
 
 pub low-names : T (low pyhyeon 100 100 (more name))
 unfolding low takes least rank
@@ -48,10 +58,6 @@ modest-list = record { tidy = tt; lower = tt; pays = tt }
 pub modest-parameters : Modest parameters
 unfolding clean low takes afford credit first least rank writes needs gives
 modest-parameters = record { tidy = tt; lower = tt; pays = tt }
-
-pub bounded-entry : Bounded 8 entry
-unfolding takes clean low afford credit first least rank writes needs gives
-bounded-entry = record { few = tt; some = tt; tidy = tt; lower = tt; pays = tt; spared = tt }
 
 pub modest-valued : Modest valued
 unfolding clean low takes afford credit first least rank writes needs gives

@@ -1,4 +1,4 @@
--- An atom alone, as contracts cite it: a short way through the rules from O to F, which their definitions allow.
+-- An atom alone, which takes a short way through the rules from O to F. Only private contracts cite this.
 -- Assumes nothing.
 use Prim.Native.Nat.{ℕ, _+_}
 use mathlib.Core.Path.{_≡_}

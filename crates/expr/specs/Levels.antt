@@ -1,4 +1,4 @@
--- What is asked of a level's operand, and what its operators make of it.
+-- What is asked of a level's operand, and what its operators make of it. Only private contracts cite this.
 -- Assumes nothing.
 use Prim.Native.Nat.{ℕ, _<_}
 use mathlib.Core.Path.{_≡_}

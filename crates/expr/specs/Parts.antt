@@ -1,6 +1,7 @@
 -- Parts of the rules that a function has for itself. Only contracts cite these: each is a part of a rule's body (specs/Tables.antt of the grammar).
 -- Assumes nothing.
 use Prim.Native.Nat.{ℕ}
+use mathlib.Core.Bool.{Bool, true, false}
 use mathlib.Core.List.{List, [], _∷_}
 use Rattle.grammar.specs.Grammar.{Part, skip, act, tok, call, _⨾_, _∕_, many, tail}
 use lib.ListN.{getD}
@@ -31,15 +32,17 @@ chained = many further ⨾ act compared
 abbrev pub compares : Part Action Rule
 compares = call S ⨾ act compare ⨾ chained
 
--- the rest of a list of expressions, of names, of pairs
-abbrev pub others : Part Action Rule
-others = tail Comma (more (call E))
+-- a member of a list: a pair, or an E; and the rest of such a list
+abbrev pub member : Bool → Part Action Rule
+member true = entry
+member false = call E
 
+abbrev pub others : Bool → Part Action Rule
+others paired = tail Comma (more (member paired))
+
+-- a name in a list of names
 abbrev pub name : Part Action Rule
 name = tok names ⨾ act (named kind.Name)
-
-abbrev pub entries : Part Action Rule
-entries = tail Comma (more entry)
 
 -- a list's closing bracket; a list and its closing bracket
 abbrev pub closes : ℕ → ℕ → Part Action Rule
@@ -64,7 +67,7 @@ abbrev pub valued : Part Action Rule
 valued = call E ⨾ act pair
 
 abbrev pub pairsRest : Part Action Rule
-pairsRest = call E ⨾ act pair ⨾ act list-one ⨾ entries ⨾ act list-done ⨾ closes RBrace kind.Dict
+pairsRest = call E ⨾ act pair ⨾ act list-one ⨾ others true ⨾ act list-done ⨾ closes RBrace kind.Dict
 
 -- after the first E in parentheses; after the comma behind it
 abbrev pub tupleRest : Part Action Rule
@@ -82,4 +85,4 @@ indexOn = call E ⨾ tk RBracket ⨾ act index
 
 -- after the first comma of t
 abbrev pub tOn : Part Action Rule
-tOn = act list-one ⨾ more (call E) ⨾ others ⨾ act tuple ∕ skip
+tOn = act list-one ⨾ more (call E) ⨾ others false ⨾ act tuple ∕ skip

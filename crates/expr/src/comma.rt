@@ -58,7 +58,7 @@ fn comma_rest(
         match inner {
             Parsed::Node(n, after) => {
                 leaves::link(tree, first, n, after);
-                let more = rest(src, toks, tree, left, first, n, after);
+                let more = rest(src, toks, tree, left, false, first, n, after);
                 match more {
                     Parsed::Node(head, done) => {
                         let made = leaves::put_tuple(toks, tree, head, done);

@@ -21,7 +21,7 @@ ghost use Rattle.leaves.specs.Contract.{a-node, a-list, Rules, Parts, Lists, Re
 ghost use Rattle.ast.specs.Kind as kind;
 ghost use Rattle.pyhyeon.specs.Action.{empty};
 ghost use Rattle.expr.specs.Levels.{Goes, Follows};
-ghost use Rattle.expr.specs.Parts.{operand, operators, term, chained, compares, others, entries, closes, enclosed, lambdaOn, lambdaBody, teeOn, valued, pairsRest, tupleRest, roundOn, callOn, indexOn};
+ghost use Rattle.expr.specs.Parts.{operand, operators, term, chained, compares, member, others, closes, enclosed, lambdaOn, lambdaBody, teeOn, valued, pairsRest, tupleRest, roundOn, callOn, indexOn};
 
 mod alone;
 mod comma;
@@ -636,7 +636,7 @@ fn items(src: &[u8], toks: &[u32], tree: &mut [u32], left: u32, s: State) -> Par
         let inner = rule_e(src, toks, tree, left, s);
         match inner {
             Parsed::Node(n, after) => {
-                let more = rest(src, toks, tree, left, n, n, after);
+                let more = rest(src, toks, tree, left, false, n, n, after);
                 match more {
                     Parsed::Node(first, done) => Parsed::Node(first, done),
                     Parsed::Refused(code, done) => Parsed::Refused(code, done),
@@ -649,19 +649,20 @@ fn items(src: &[u8], toks: &[u32], tree: &mut [u32], left: u32, s: State) -> Par
     }
 }
 
-// The rest of a list of E after the member `newest`: each member is linked to the one before it.
+// The rest of a list of E, or of pairs, after the member `newest`: each member is linked to the one before it.
 fn rest(
     src: &[u8],
     toks: &[u32],
     tree: &mut [u32],
     left: u32,
+    paired: bool,
     first: NodeNumber,
     newest: NodeNumber,
     s: State,
 ) -> Parsed
     requires { ⌜ Ready (now src) (now toks) (now tree) s 1 ⌝ }
     requires { ⌜ (first .0 < s .nodes) × (newest .0 < s .nodes) ⌝ }
-    ensures { λ r. ⌜ Lists (now (src .entry)) (now (toks .entry)) left others (growing (first .0) (newest .0) ∷ []) s (now (tree .entry)) r (now (tree .exit)) ⌝ }
+    ensures { λ r. ⌜ Lists (now (src .entry)) (now (toks .entry)) left (others paired) (growing (first .0) (newest .0) ∷ []) s (now (tree .entry)) r (now (tree .exit)) ⌝ }
 {
     let mut last = newest;
     let mut st = s;
@@ -677,7 +678,7 @@ fn rest(
                 used: st.used,
             };
             if leaves::begins_e(leaves::symbol_at(src, toks, next)) {
-                let inner = rule_e(src, toks, tree, left, on);
+                let inner = member(src, toks, tree, left, paired, on);
                 match inner {
                     Parsed::Node(n, after) => {
                         leaves::link(tree, last, n, after);
@@ -772,7 +773,7 @@ fn set(
     requires { ⌜ (opener .0 < s .at .0) × (first .0 < s .nodes) ⌝ }
     ensures { λ r. ⌜ Parts (now (src .entry)) (now (toks .entry)) left setOn (node (first .0) ∷ token (opener .0) ∷ []) a-node s (now (tree .entry)) r (now (tree .exit)) ⌝ }
 {
-    let inner = rest(src, toks, tree, left, first, first, s);
+    let inner = rest(src, toks, tree, left, false, first, first, s);
     match inner {
         Parsed::Node(head, after) => shut(
             src,
@@ -806,7 +807,7 @@ fn pairs(
     let inner = value(src, toks, tree, left, key, s);
     match inner {
         Parsed::Node(n, after) => {
-            let more = entries(src, toks, tree, left, n, n, after);
+            let more = rest(src, toks, tree, left, true, n, n, after);
             match more {
                 Parsed::Node(head, done) => shut(
                     src,
@@ -871,49 +872,16 @@ fn item(src: &[u8], toks: &[u32], tree: &mut [u32], left: u32, s: State) -> Pars
     }
 }
 
-// The rest of a list of pairs.
-fn entries(
-    src: &[u8],
-    toks: &[u32],
-    tree: &mut [u32],
-    left: u32,
-    first: NodeNumber,
-    newest: NodeNumber,
-    s: State,
-) -> Parsed
+// A member of a list: a pair, or an E.
+fn member(src: &[u8], toks: &[u32], tree: &mut [u32], left: u32, paired: bool, s: State) -> Parsed
     requires { ⌜ Ready (now src) (now toks) (now tree) s 1 ⌝ }
-    requires { ⌜ (first .0 < s .nodes) × (newest .0 < s .nodes) ⌝ }
-    ensures { λ r. ⌜ Lists (now (src .entry)) (now (toks .entry)) left entries (growing (first .0) (newest .0) ∷ []) s (now (tree .entry)) r (now (tree .exit)) ⌝ }
+    requires { ⌜ Begun (now src) (now toks) s E ⌝ }
+    ensures { λ r. ⌜ Parts (now (src .entry)) (now (toks .entry)) left (member paired) [] a-node s (now (tree .entry)) r (now (tree .exit)) ⌝ }
 {
-    let mut last = newest;
-    let mut st = s;
-    loop {
-        let at = st.at;
-        if leaves::is_symbol(leaves::symbol_at(src, toks, at), token::COMMA) {
-            let t = at.0 + 1;
-            let next = TokenNumber(t);
-            let on = State {
-                at: next,
-                nodes: st.nodes,
-                opened: st.opened,
-                used: st.used,
-            };
-            if leaves::begins_e(leaves::symbol_at(src, toks, next)) {
-                let inner = item(src, toks, tree, left, on);
-                match inner {
-                    Parsed::Node(n, after) => {
-                        leaves::link(tree, last, n, after);
-                        last = n;
-                        st = after;
-                    }
-                    Parsed::Refused(code, after) => return Parsed::Refused(code, after),
-                }
-            } else {
-                return Parsed::Node(first, on);
-            }
-        } else {
-            return Parsed::Node(first, st);
-        }
+    if paired {
+        item(src, toks, tree, left, s)
+    } else {
+        rule_e(src, toks, tree, left, s)
     }
 }
 
@@ -1042,7 +1010,7 @@ fn tuple(
         match inner {
             Parsed::Node(n, after) => {
                 leaves::link(tree, first, n, after);
-                let more = rest(src, toks, tree, left, first, n, after);
+                let more = rest(src, toks, tree, left, false, first, n, after);
                 match more {
                     Parsed::Node(head, done) => shut(
                         src,

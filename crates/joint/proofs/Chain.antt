@@ -2,7 +2,7 @@
 -- its tests and calls.
 -- Assumes nothing.
 use mathlib.Core.Path.{_≡_, refl, ap, sym, _∙_}
-use mathlib.Core.Bool.{Bool, true, false}
+use mathlib.Core.Bool.{true, false}
 use mathlib.Core.List.{List, [], _∷_, _++_}
 use Prim.Native.Nat.{ℕ, zero, suc, _+_, _-_, _≤_}
 use native.Mathlib.Omega.{arith}
@@ -10,16 +10,16 @@ use native.Mathlib.Numerals.{add-one}
 use lib.Dec.{T}
 use lib.ListN.{getD}
 use lib.Seq.{drop-cons}
-use Rattle.grammar.specs.Sets.{mem, sees}
+use Rattle.grammar.specs.Sets.{mem}
 use Rattle.grammar.specs.Grammar.{Part, skip, act, tok, see, call, _⨾_, _∕_, many, tail}
-use Rattle.grammar.specs.Trial.{Machine, St, Out, ok, fail, okIf, takeFrom, takeP, actP, skipP}
+use Rattle.grammar.specs.Trial.{Machine, St, ok, fail, okIf, takeFrom, takeP, actP, skipP}
 use Rattle.grammar.specs.Descent.{Answer, done, no, deep, stuck, Walk, begins, thenD, sameD, seqD, byD, walk, enter, descend}
 use Rattle.grammar.specs.Check.{low}
 use Rattle.grammar.proofs.Step.{descend-is, many-is, list-is}
 use Rattle.grammar.proofs.Whole.{Sound, tested}
 use Rattle.token.specs.declared.NodeNumber.{NodeNumber}
 use Rattle.pyhyeon.specs.Symbol.{symbols}
-use Rattle.pyhyeon.specs.Machine.{Value, Kept}
+use Rattle.pyhyeon.specs.Machine.{Value}
 use Rattle.pyhyeon.specs.Action.{Action, perform, machine}
 use Rattle.pyhyeon.specs.Rules.{Rule}
 use Rattle.pyhyeon.specs.Tables.{joined, first, opens, pyhyeon}

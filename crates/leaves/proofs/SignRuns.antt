@@ -1,42 +1,18 @@
--- The loops over signs: they are passed one by one, and wrapped around the node in the other order.
+-- The loop over signs: they are wrapped around the node from the last to the first.
 -- Assumes nothing.
 use mathlib.Core.Path.{_≡_, ap, sym, _∙_}
-use mathlib.Core.Bool.{true, false}
 use mathlib.Core.List.{List, [], _∷_}
 use Prim.Native.Nat.{ℕ, suc, _+_, _*_, _-_, _^_, _≤_, _<_}
-use native.Mathlib.Decide.{decLt}
 use native.Mathlib.Omega.{arith}
 use lib.ListN.{length}
-use Rattle.grammar.specs.Sets.{mem}
 use Rattle.token.specs.declared.NodeNumber.{NodeNumber}
 use Rattle.pyhyeon.specs.Machine.{Value, node, Kept, write}
 use Rattle.pyhyeon.specs.Action.{unaryNode, wrap}
 use Rattle.leaves.specs.declared.Added.{Added}
 use Rattle.leaves.specs.declared.State.{State}
-use Rattle.leaves.specs.Tokens.{eofAt, tokensOf, symbolAt}
+use Rattle.leaves.specs.Tokens.{eofAt, tokensOf}
 use Rattle.leaves.specs.Contract.{added, kept, Frame, Signed, Wraps}
-use Rattle.leaves.specs.Put.{Run}
 use Rattle.leaves.proofs.Frames.{frame-then}
-
--- the tokens from t up to k are in the set
-pub record Passed (src toks set : List ℕ) (t k : ℕ) : Type 0 where
-  pub order : t ≤ k
-  pub inside : k ≤ eofAt toks
-  pub each : (j : ℕ) → t ≤ j → j < k → mem (symbolAt src toks j) set ≡ true
-
-module _ {src toks set : List ℕ} {t : ℕ} where
-  pub pass-none : t ≤ eofAt toks → Passed src toks set t t
-  pass-none h = record { order = omega arith; inside = h; each = λ j a b. absurd (omega arith) }
-
-  pub pass-one : {k : ℕ} → Passed src toks set t k → k < eofAt toks → mem (symbolAt src toks k) set ≡ true → Passed src toks set t (k + 1)
-  pass-one {k} p l e = record { order = omega (arith, p .order); inside = omega arith; each = λ j a b. go j a b (decLt j k) }
-    where
-      go : (j : ℕ) → t ≤ j → j < k + 1 → Dec (j < k) → mem (symbolAt src toks j) set ≡ true
-      go j a b (yes h) = p .each j a h
-      go j a b (no h) = let d : j ≡ k = omega arith in rw d e
-
-  pub pass-all : {k : ℕ} → Passed src toks set t k → mem (symbolAt src toks k) set ≡ false → Run src toks set t k
-  pass-all p e = record { order = p .order; inside = p .inside; each = p .each; stop = e }
 
 -- The loop of `wrap`: the signs before k around the node n come to what all the signs come to around the first node.
 pub record Inv (toks tr₀ : List ℕ) (first k₀ : ℕ) (n₀ : NodeNumber) (s₀ : State) (tr : List ℕ) (k : ℕ) (n : NodeNumber) (s : State) : Type 0 where

@@ -2,25 +2,23 @@
 -- Assumes nothing.
 use mathlib.Core.Path.{_≡_, refl, ap, sym, _∙_}
 use mathlib.Core.Bool.{true, false}
-use mathlib.Core.List.{List, [], _∷_, map}
+use mathlib.Core.List.{List, _∷_, map}
 use Prim.Native.Nat.{ℕ, zero, suc, _+_, _≤_, _<_}
 use native.Mathlib.Omega.{arith}
 use native.Mathlib.Numerals.{add-one}
-use lib.Dec.{T}
 use lib.ListN.{length, getD, drop}
 use lib.Seq.{drop-cons}
 use borrow.Author.Tests.{ne-eqb}
 use Rattle.grammar.specs.Sets.{mem, sees}
 use Rattle.grammar.specs.Limits.{before}
-use Rattle.grammar.proofs.Tokens.{before-drop, seen-within}
+use Rattle.grammar.proofs.Tokens.{seen-within}
 use Rattle.token.specs.Code.{String, Eof}
-use Rattle.tokens.specs.Token.{Token}
 use Rattle.lexer.specs.Value.{textOf}
 use Rattle.ast.specs.Words.{tabulate}
 use Rattle.ast.proofs.Tabulate.{length-tabulate, getD-tabulate}
 use Rattle.pyhyeon.specs.Symbol.{symbol, symbols}
 use Rattle.pyhyeon.specs.Action.{tokenAt}
-use Rattle.leaves.specs.Tokens.{codeAt, bytesAt, eofAt, textBefore, tokenOf, tokensOf, symbolAt, Tokens}
+use Rattle.leaves.specs.Tokens.{codeAt, eofAt, textBefore, tokenOf, tokensOf, symbolAt, Tokens}
 
 map-tabulate : {A B : Type 0} (f : A → B) (g : ℕ → A) (i k : ℕ) → map f (tabulate g i k) ≡ tabulate (λ t. f (g t)) i k
 map-tabulate f g i zero = refl

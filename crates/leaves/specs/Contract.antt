@@ -3,14 +3,13 @@
 use Prim.Native.Nat.{ℕ, _+_, _-_, _*_, _^_, _≤_, _<_}
 use mathlib.Core.Path.{_≡_}
 use mathlib.Core.Bool.{true}
-use mathlib.Core.List.{List, [], _∷_, _++_}
+use mathlib.Core.List.{List, _∷_, _++_}
 use lib.ListN.{length, getD, drop}
 use Rattle.grammar.specs.Sets.{mem}
 use Rattle.grammar.specs.Grammar.{Part, _⨾_}
 use Rattle.grammar.specs.Trial.{St}
 use Rattle.grammar.specs.Descent.{Answer, done, no, deep, walk, descend}
 use Rattle.token.specs.Code as token
-use Rattle.token.specs.declared.TokenNumber.{TokenNumber}
 use Rattle.token.specs.declared.NodeNumber.{NodeNumber}
 use Rattle.ast.specs.Operator.{binaryOp}
 use Rattle.ast.specs.Words.{nodesOf}

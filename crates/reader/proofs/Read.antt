@@ -13,7 +13,6 @@ use Rattle.lexer.specs.declared.Scanned.{Scanned}
 use Rattle.lexer.specs.declared.Scanned.the-variants as S
 use Rattle.lexer.proofs.Writing.{length-words}
 use Rattle.lexer.proofs.Laws.{tokens-few, text-few}
-use Rattle.ast.specs.Node.{Node}
 use Rattle.ast.specs.Words.{nodesOf}
 use Rattle.ast.proofs.Nodes.{length-nodes}
 use Rattle.pyhyeon.specs.Reading.{Descended, Accepted, Limited, workOf, descent}
@@ -23,7 +22,7 @@ use Rattle.leaves.specs.declared.Parsed.{Parsed}
 use Rattle.leaves.specs.declared.Parsed.the-variants as P
 use Rattle.leaves.specs.Tokens.{startAt}
 use Rattle.joint.proofs.Handed.{Handed, handed-front}
-use Rattle.reader.specs.Outcome.{Outcome, treeArea, header, records, ofDescent, ofScan}
+use Rattle.reader.specs.Outcome.{Outcome, treeArea, header, ofDescent, ofScan}
 use Rattle.reader.specs.Steps.{Exact, padded, Held, Counted, Fills}
 use Rattle.reader.specs.declared.Answer.{Answer}
 use Rattle.reader.specs.declared.Answer.the-variants.{Tree, No, Stopped}

@@ -2,14 +2,14 @@
 -- there are before Eof.
 -- Assumes nothing.
 use mathlib.Core.Path.{refl}
-use Prim.Native.Nat.{ℕ, _-_, _<_}
+use Prim.Native.Nat.{_-_, _<_}
 use native.Mathlib.Omega.{arith}
 use borrow.Author.Needs.{needs}
 use Rattle.leaves.specs.Put.{signSet}
 use Rattle.leaves.specs.Tokens.{eofAt}
 use Rattle.leaves.proofs.Tests.{learnt}
 use Rattle.leaves.proofs.Tokens.{before-eof}
-use Rattle.leaves.proofs.SignRuns.{Passed, pass-none, pass-one, pass-all}
+use Rattle.leaves.proofs.Runs.{Passed, pass-none, pass-one, pass-all}
 use Rattle.leaves.proofs.signs.skip_signs.Statement.{statement}
 use Rattle.leaves.proofs.signs.skip_signs.Tie as tie
 

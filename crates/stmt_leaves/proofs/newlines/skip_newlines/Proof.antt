@@ -10,7 +10,7 @@ use mathlib.Core.List.{[], _∷_}
 use Rattle.leaves.specs.Tokens.{eofAt}
 use Rattle.leaves.proofs.Tests.{learnt}
 use Rattle.leaves.proofs.Tokens.{before-eof}
-use Rattle.leaves.proofs.SignRuns.{Passed, pass-none, pass-one, pass-all}
+use Rattle.leaves.proofs.Runs.{Passed, pass-none, pass-one, pass-all}
 use Rattle.stmt_leaves.proofs.newlines.skip_newlines.Statement.{statement}
 use Rattle.stmt_leaves.proofs.newlines.skip_newlines.Tie as tie
 
