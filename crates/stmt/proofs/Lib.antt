@@ -1,3 +1,4 @@
 pub mod Blocks
 pub mod Branches
 pub mod Classes
+pub mod Guards

@@ -2,8 +2,8 @@
 // one function that takes the running count of openings, raises it by one before it reads a token, and hands it on in every answer. The other
 // functions read parts of rules, and open nothing.
 //
-// Contracts are those of the expressions: `Rules` for a rule, `Parts` for a part of one. A Line gives a list in the making (`a-growing`), a Block
-// a list.
+// Contracts are those of the expressions: `Rules` for a rule, `Parts` for a part of one; `Guards` for an E and the Block behind it. A Line gives a
+// list in the making (`a-growing`), a Block a list.
 ghost use mathlib.Core.Path.{_≡_};
 ghost use mathlib.Core.Bool.{true};
 ghost use mathlib.Core.List.{List, [], _∷_};
@@ -19,6 +19,7 @@ ghost use Rattle.pyhyeon.specs.Tables.{linesOn};
 ghost use Rattle.leaves.specs.Tokens.{eofAt, textBefore, symbolAt, Tokens};
 ghost use Rattle.leaves.specs.Contract.{a-node, a-list, a-growing, Rules, Parts, Ready, Begun};
 ghost use Rattle.simple.specs.Parts.{Newest};
+ghost use Rattle.stmt.specs.Guards.{Guards};
 ghost use Rattle.stmt.specs.Parts.{linesRest, inner, indentedOn, classOn, methodsOn, methodsRest, classEnd, namedOn, givenOn, elifsOn, elifsRest, elseOn, branches, ifOn, elifOn, whileOn, rangeOn, forOn};
 
 mod whole;
@@ -31,6 +32,12 @@ pub use whole::program;
 
 // "at most 64 E and Block open at once" (01, Questions).
 const DEPTH: u32 = 64;
+
+// The answer to "E, Block": the node of E, the first node of the Block and the state behind both; or the number of a refusal, and the state.
+enum Pair {
+    Both(NodeNumber, NodeNumber, State),
+    Refused(u32, State),
+}
 
 // Line: class, def, if, while, for, or simples.
 fn rule_line(src: &[u8], toks: &[u32], tree: &mut [u32], left: u32, s: State) -> Parsed
@@ -527,6 +534,24 @@ fn given(
     }
 }
 
+// E, and the Block behind it: what While, For, If and Elif have in common.
+fn guarded(src: &[u8], toks: &[u32], tree: &mut [u32], left: u32, s: State) -> Pair
+    requires { ⌜ Ready (now src) (now toks) (now tree) s 1 ⌝ }
+    ensures { λ r. ⌜ Guards (now (src .entry)) (now (toks .entry)) left s (now (tree .entry)) r (now (tree .exit)) ⌝ }
+{
+    let test = expr::enter(src, toks, tree, left, s);
+    match test {
+        Parsed::Node(c, after) => {
+            let body = block(src, toks, tree, left, after);
+            match body {
+                Parsed::Node(n, done) => Pair::Both(c, n, done),
+                Parsed::Refused(code, done) => Pair::Refused(code, done),
+            }
+        }
+        Parsed::Refused(code, after) => Pair::Refused(code, after),
+    }
+}
+
 // While after its keyword: E, Block.
 fn again(
     src: &[u8],
@@ -541,21 +566,15 @@ fn again(
     ensures { λ r. ⌜ Parts (now (src .entry)) (now (toks .entry)) left whileOn (token (keyword .0) ∷ []) a-node s (now (tree .entry)) r (now (tree .exit)) ⌝ }
     ensures { λ r. ⌜ Newest r ⌝ }
 {
-    let test = expr::enter(src, toks, tree, left, s);
-    match test {
-        Parsed::Node(c, after) => {
-            let body = block(src, toks, tree, left, after);
-            match body {
-                Parsed::Node(n, done) => {
-                    let made = stmt_leaves::put_while(toks, tree, keyword, c, n, done);
-                    let m = made.0;
-                    let end = made.1;
-                    Parsed::Node(m, end)
-                }
-                Parsed::Refused(code, done) => Parsed::Refused(code, done),
-            }
+    let head = guarded(src, toks, tree, left, s);
+    match head {
+        Pair::Both(c, n, done) => {
+            let made = stmt_leaves::put_while(toks, tree, keyword, c, n, done);
+            let m = made.0;
+            let end = made.1;
+            Parsed::Node(m, end)
         }
-        Parsed::Refused(code, after) => Parsed::Refused(code, after),
+        Pair::Refused(code, done) => Parsed::Refused(code, done),
     }
 }
 
@@ -615,21 +634,15 @@ fn range(
     ensures { λ r. ⌜ Parts (now (src .entry)) (now (toks .entry)) left rangeOn (token (name .0) ∷ token (keyword .0) ∷ []) a-node s (now (tree .entry)) r (now (tree .exit)) ⌝ }
     ensures { λ r. ⌜ Newest r ⌝ }
 {
-    let over = expr::enter(src, toks, tree, left, s);
-    match over {
-        Parsed::Node(c, after) => {
-            let body = block(src, toks, tree, left, after);
-            match body {
-                Parsed::Node(n, done) => {
-                    let made = stmt_leaves::put_for(toks, tree, keyword, name, c, n, done);
-                    let m = made.0;
-                    let end = made.1;
-                    Parsed::Node(m, end)
-                }
-                Parsed::Refused(code, done) => Parsed::Refused(code, done),
-            }
+    let head = guarded(src, toks, tree, left, s);
+    match head {
+        Pair::Both(c, n, done) => {
+            let made = stmt_leaves::put_for(toks, tree, keyword, name, c, n, done);
+            let m = made.0;
+            let end = made.1;
+            Parsed::Node(m, end)
         }
-        Parsed::Refused(code, after) => Parsed::Refused(code, after),
+        Pair::Refused(code, done) => Parsed::Refused(code, done),
     }
 }
 
@@ -647,16 +660,10 @@ fn cond(
     ensures { λ r. ⌜ Parts (now (src .entry)) (now (toks .entry)) left ifOn (token (keyword .0) ∷ []) a-node s (now (tree .entry)) r (now (tree .exit)) ⌝ }
     ensures { λ r. ⌜ Newest r ⌝ }
 {
-    let test = expr::enter(src, toks, tree, left, s);
-    match test {
-        Parsed::Node(c, after) => {
-            let body = block(src, toks, tree, left, after);
-            match body {
-                Parsed::Node(n, done) => branch(src, toks, tree, left, keyword, c, n, done),
-                Parsed::Refused(code, done) => Parsed::Refused(code, done),
-            }
-        }
-        Parsed::Refused(code, after) => Parsed::Refused(code, after),
+    let head = guarded(src, toks, tree, left, s);
+    match head {
+        Pair::Both(c, n, done) => branch(src, toks, tree, left, keyword, c, n, done),
+        Pair::Refused(code, done) => Parsed::Refused(code, done),
     }
 }
 
@@ -758,21 +765,15 @@ fn elif(src: &[u8], toks: &[u32], tree: &mut [u32], left: u32, s: State) -> Pars
         opened: s.opened,
         used: s.used,
     };
-    let test = expr::enter(src, toks, tree, left, on);
-    match test {
-        Parsed::Node(c, after) => {
-            let body = block(src, toks, tree, left, after);
-            match body {
-                Parsed::Node(n, done) => {
-                    let made = stmt_leaves::put_elif(toks, tree, keyword, c, n, done);
-                    let m = made.0;
-                    let end = made.1;
-                    Parsed::Node(m, end)
-                }
-                Parsed::Refused(code, done) => Parsed::Refused(code, done),
-            }
+    let head = guarded(src, toks, tree, left, on);
+    match head {
+        Pair::Both(c, n, done) => {
+            let made = stmt_leaves::put_elif(toks, tree, keyword, c, n, done);
+            let m = made.0;
+            let end = made.1;
+            Parsed::Node(m, end)
         }
-        Parsed::Refused(code, after) => Parsed::Refused(code, after),
+        Pair::Refused(code, done) => Parsed::Refused(code, done),
     }
 }
 

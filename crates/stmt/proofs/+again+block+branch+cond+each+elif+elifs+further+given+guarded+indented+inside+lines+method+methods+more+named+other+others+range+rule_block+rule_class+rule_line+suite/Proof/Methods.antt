@@ -14,13 +14,13 @@ use Rattle.stmt.proofs.Classes.{modest-method}
 use borrow.Author.Needs.{needs}
 use native.Mathlib.Omega.{arith}
 use Prim.Native.Nat.{ℕ}
-use Rattle.stmt.proofs.+again+block+branch+cond+each+elif+elifs+further+given+indented+inside+lines+method+methods+more+named+other+others+range+rule_block+rule_class+rule_line+suite.Lts-methods as lts
+use Rattle.stmt.proofs.+again+block+branch+cond+each+elif+elifs+further+given+guarded+indented+inside+lines+method+methods+more+named+other+others+range+rule_block+rule_class+rule_line+suite.Lts-methods as lts
 use Rattle.stmt.proofs.methods.Reads as reads
 use Rattle.leaves.proofs.symbol_at.Reads as symbol-at-reads
 use Rattle.leaves.proofs.is_symbol.Reads as is-symbol-reads
 use Rattle.stmt.proofs.method.Reads as method
 use Rattle.stmt.proofs.others.Reads as others
-use Rattle.stmt.proofs.+again+block+branch+cond+each+elif+elifs+further+given+indented+inside+lines+method+methods+more+named+other+others+range+rule_block+rule_class+rule_line+suite.Proof.Start.{methods-at, method-below, others-below}
+use Rattle.stmt.proofs.+again+block+branch+cond+each+elif+elifs+further+given+guarded+indented+inside+lines+method+methods+more+named+other+others+range+rule_block+rule_class+rule_line+suite.Proof.Start.{methods-at, method-below, others-below}
 
 abbrev calls : ℕ → lts.Claims
 calls t = (symbol-at-reads.Asked, symbol-at-reads.Learnt, is-symbol-reads.Asked, is-symbol-reads.Learnt, method-below t, method.Post, others-below t, others.Post)

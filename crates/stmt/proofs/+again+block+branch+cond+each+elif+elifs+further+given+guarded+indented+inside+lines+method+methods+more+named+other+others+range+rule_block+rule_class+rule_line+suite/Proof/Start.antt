@@ -23,6 +23,8 @@ use Rattle.stmt.proofs.further.Reads as further
 use Rattle.stmt.proofs.further.Kinds as further-kinds
 use Rattle.stmt.proofs.given.Reads as given
 use Rattle.stmt.proofs.given.Kinds as given-kinds
+use Rattle.stmt.proofs.guarded.Reads as guarded
+use Rattle.stmt.proofs.guarded.Kinds as guarded-kinds
 use Rattle.stmt.proofs.indented.Reads as indented
 use Rattle.stmt.proofs.indented.Kinds as indented-kinds
 use Rattle.stmt.proofs.inside.Reads as inside
@@ -53,7 +55,7 @@ use Rattle.stmt.proofs.suite.Reads as suite
 use Rattle.stmt.proofs.suite.Kinds as suite-kinds
 
 abbrev pub μ-again : Measures 3 again-kinds.ps ℕ
-μ-again κs a = 8 * (length (a .1 .0 .now) - 3 * a .1 .1 .1 .1 .1 .0 .at .0) + 0
+μ-again κs a = 8 * (length (a .1 .0 .now) - 3 * a .1 .1 .1 .1 .1 .0 .at .0) + 1
 
 abbrev pub μ-block : Measures 3 block-kinds.ps ℕ
 μ-block κs a = 8 * (length (a .1 .0 .now) - 3 * a .1 .1 .1 .1 .0 .at .0) + 1
@@ -62,7 +64,7 @@ abbrev pub μ-branch : Measures 3 branch-kinds.ps ℕ
 μ-branch κs a = 8 * (length (a .1 .0 .now) - 3 * a .1 .1 .1 .1 .1 .1 .1 .0 .at .0) + 2
 
 abbrev pub μ-cond : Measures 3 cond-kinds.ps ℕ
-μ-cond κs a = 8 * (length (a .1 .0 .now) - 3 * a .1 .1 .1 .1 .1 .0 .at .0) + 0
+μ-cond κs a = 8 * (length (a .1 .0 .now) - 3 * a .1 .1 .1 .1 .1 .0 .at .0) + 1
 
 abbrev pub μ-each : Measures 3 each-kinds.ps ℕ
 μ-each κs a = 8 * (length (a .1 .0 .now) - 3 * a .1 .1 .1 .1 .1 .0 .at .0) + 0
@@ -78,6 +80,9 @@ abbrev pub μ-further : Measures 3 further-kinds.ps ℕ
 
 abbrev pub μ-given : Measures 3 given-kinds.ps ℕ
 μ-given κs a = 8 * (length (a .1 .0 .now) - 3 * a .1 .1 .1 .1 .1 .1 .1 .0 .at .0) + 0
+
+abbrev pub μ-guarded : Measures 3 guarded-kinds.ps ℕ
+μ-guarded κs a = 8 * (length (a .1 .0 .now) - 3 * a .1 .1 .1 .1 .0 .at .0) + 0
 
 abbrev pub μ-indented : Measures 3 indented-kinds.ps ℕ
 μ-indented κs a = 8 * (length (a .1 .0 .now) - 3 * a .1 .1 .1 .1 .0 .at .0) + 0
@@ -107,7 +112,7 @@ abbrev pub μ-others : Measures 3 others-kinds.ps ℕ
 μ-others κs a = 8 * (length (a .1 .0 .now) - 3 * a .1 .1 .1 .1 .1 .1 .1 .0 .at .0) + 1
 
 abbrev pub μ-range : Measures 3 range-kinds.ps ℕ
-μ-range κs a = 8 * (length (a .1 .0 .now) - 3 * a .1 .1 .1 .1 .1 .1 .0 .at .0) + 0
+μ-range κs a = 8 * (length (a .1 .0 .now) - 3 * a .1 .1 .1 .1 .1 .1 .0 .at .0) + 1
 
 abbrev pub μ-rule-block : Measures 3 rule-block-kinds.ps ℕ
 μ-rule-block κs a = 8 * (length (a .1 .0 .now) - 3 * a .1 .1 .1 .1 .0 .at .0) + 0
@@ -174,6 +179,12 @@ given-at t = and 3 given-kinds.ps (is 3 given-kinds.ps μ-given t) given.Pre
 
 abbrev pub given-below : ℕ → In 3 given-kinds.ps
 given-below t = and 3 given-kinds.ps (falls 3 given-kinds.ps _<_ μ-given t) given.Pre
+
+abbrev pub guarded-at : ℕ → In 3 guarded-kinds.ps
+guarded-at t = and 3 guarded-kinds.ps (is 3 guarded-kinds.ps μ-guarded t) guarded.Pre
+
+abbrev pub guarded-below : ℕ → In 3 guarded-kinds.ps
+guarded-below t = and 3 guarded-kinds.ps (falls 3 guarded-kinds.ps _<_ μ-guarded t) guarded.Pre
 
 abbrev pub indented-at : ℕ → In 3 indented-kinds.ps
 indented-at t = and 3 indented-kinds.ps (is 3 indented-kinds.ps μ-indented t) indented.Pre

@@ -19,14 +19,14 @@ use Rattle.leaves.specs.Tokens.{eofAt}
 use borrow.Author.Needs.{needs}
 use native.Mathlib.Omega.{arith}
 use Prim.Native.Nat.{ℕ}
-use Rattle.stmt.proofs.+again+block+branch+cond+each+elif+elifs+further+given+indented+inside+lines+method+methods+more+named+other+others+range+rule_block+rule_class+rule_line+suite.Lts-others as lts
+use Rattle.stmt.proofs.+again+block+branch+cond+each+elif+elifs+further+given+guarded+indented+inside+lines+method+methods+more+named+other+others+range+rule_block+rule_class+rule_line+suite.Lts-others as lts
 use Rattle.stmt.proofs.others.Reads as reads
 use Rattle.leaves.proofs.symbol_at.Reads as symbol-at-reads
 use Rattle.leaves.proofs.is_symbol.Reads as is-symbol-reads
 use Rattle.stmt.proofs.method.Reads as method
 use Rattle.leaves.proofs.link.Reads as link-reads
 use Rattle.stmt.proofs.class_end.Reads as class-end-reads
-use Rattle.stmt.proofs.+again+block+branch+cond+each+elif+elifs+further+given+indented+inside+lines+method+methods+more+named+other+others+range+rule_block+rule_class+rule_line+suite.Proof.Start.{others-at, method-below}
+use Rattle.stmt.proofs.+again+block+branch+cond+each+elif+elifs+further+given+guarded+indented+inside+lines+method+methods+more+named+other+others+range+rule_block+rule_class+rule_line+suite.Proof.Start.{others-at, method-below}
 
 abbrev calls : ℕ → lts.Claims
 calls t = (symbol-at-reads.Asked, symbol-at-reads.Learnt, is-symbol-reads.Asked, is-symbol-reads.Learnt, method-below t, method.Post, link-reads.Asked, link-reads.Learnt, class-end-reads.Asked, class-end-reads.Learnt)
