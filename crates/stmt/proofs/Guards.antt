@@ -12,7 +12,7 @@ use Rattle.pyhyeon.specs.Rules.{Rule, E, Block}
 use Rattle.leaves.specs.declared.State.{State}
 use Rattle.leaves.specs.declared.Parsed.the-variants as parsed
 use Rattle.leaves.specs.Contract.{Shape, Comes}
-use Rattle.stmt.specs.declared.Pair.the-variants.{Both, Refused}
+use Rattle.stmt.specs.declared.Clause.the-variants.{Both, Refused}
 use Rattle.stmt.specs.Guards.{Behind, Guards}
 
 module _ {src toks : List ℕ} {room : ℕ} {s : State} {tr : List ℕ} {s′ : State} {tr′ : List ℕ} where

@@ -34,7 +34,7 @@ pub use whole::program;
 const DEPTH: u32 = 64;
 
 // The answer to "E, Block": the node of E, the first node of the Block and the state behind both; or the number of a refusal, and the state.
-enum Pair {
+enum Clause {
     Both(NodeNumber, NodeNumber, State),
     Refused(u32, State),
 }
@@ -535,7 +535,7 @@ fn given(
 }
 
 // E, and the Block behind it: what While, For, If and Elif have in common.
-fn guarded(src: &[u8], toks: &[u32], tree: &mut [u32], left: u32, s: State) -> Pair
+fn guarded(src: &[u8], toks: &[u32], tree: &mut [u32], left: u32, s: State) -> Clause
     requires { ⌜ Ready (now src) (now toks) (now tree) s 1 ⌝ }
     ensures { λ r. ⌜ Guards (now (src .entry)) (now (toks .entry)) left s (now (tree .entry)) r (now (tree .exit)) ⌝ }
 {
@@ -544,11 +544,11 @@ fn guarded(src: &[u8], toks: &[u32], tree: &mut [u32], left: u32, s: State) -> P
         Parsed::Node(c, after) => {
             let body = block(src, toks, tree, left, after);
             match body {
-                Parsed::Node(n, done) => Pair::Both(c, n, done),
-                Parsed::Refused(code, done) => Pair::Refused(code, done),
+                Parsed::Node(n, done) => Clause::Both(c, n, done),
+                Parsed::Refused(code, done) => Clause::Refused(code, done),
             }
         }
-        Parsed::Refused(code, after) => Pair::Refused(code, after),
+        Parsed::Refused(code, after) => Clause::Refused(code, after),
     }
 }
 
@@ -568,13 +568,13 @@ fn again(
 {
     let head = guarded(src, toks, tree, left, s);
     match head {
-        Pair::Both(c, n, done) => {
+        Clause::Both(c, n, done) => {
             let made = stmt_leaves::put_while(toks, tree, keyword, c, n, done);
             let m = made.0;
             let end = made.1;
             Parsed::Node(m, end)
         }
-        Pair::Refused(code, done) => Parsed::Refused(code, done),
+        Clause::Refused(code, done) => Parsed::Refused(code, done),
     }
 }
 
@@ -636,13 +636,13 @@ fn range(
 {
     let head = guarded(src, toks, tree, left, s);
     match head {
-        Pair::Both(c, n, done) => {
+        Clause::Both(c, n, done) => {
             let made = stmt_leaves::put_for(toks, tree, keyword, name, c, n, done);
             let m = made.0;
             let end = made.1;
             Parsed::Node(m, end)
         }
-        Pair::Refused(code, done) => Parsed::Refused(code, done),
+        Clause::Refused(code, done) => Parsed::Refused(code, done),
     }
 }
 
@@ -662,8 +662,8 @@ fn cond(
 {
     let head = guarded(src, toks, tree, left, s);
     match head {
-        Pair::Both(c, n, done) => branch(src, toks, tree, left, keyword, c, n, done),
-        Pair::Refused(code, done) => Parsed::Refused(code, done),
+        Clause::Both(c, n, done) => branch(src, toks, tree, left, keyword, c, n, done),
+        Clause::Refused(code, done) => Parsed::Refused(code, done),
     }
 }
 
@@ -767,13 +767,13 @@ fn elif(src: &[u8], toks: &[u32], tree: &mut [u32], left: u32, s: State) -> Pars
     };
     let head = guarded(src, toks, tree, left, on);
     match head {
-        Pair::Both(c, n, done) => {
+        Clause::Both(c, n, done) => {
             let made = stmt_leaves::put_elif(toks, tree, keyword, c, n, done);
             let m = made.0;
             let end = made.1;
             Parsed::Node(m, end)
         }
-        Pair::Refused(code, done) => Parsed::Refused(code, done),
+        Clause::Refused(code, done) => Parsed::Refused(code, done),
     }
 }
 
