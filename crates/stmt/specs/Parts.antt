@@ -1,9 +1,10 @@
 -- Parts of the rules that a function has for itself. Only contracts cite these: each is a part of a rule's body (specs/Tables.antt of the grammar).
 -- Assumes nothing.
 use Prim.Native.Nat.{ℕ}
+use mathlib.Core.Bool.{Bool, true, false}
 use mathlib.Core.List.{[], _∷_}
 use Rattle.grammar.specs.Grammar.{Part, act, see, call, _⨾_, _∕_, many}
-use Rattle.token.specs.Code.{Elif, Else, In, LParen, RParen, Colon, Indent, Dedent, Newline, Eof}
+use Rattle.token.specs.Code.{Def, Elif, Else, In, LParen, RParen, Colon, Indent, Dedent, Newline, Eof}
 use Rattle.ast.specs.Kind as kind
 use Rattle.pyhyeon.specs.Action.{Action, mark, list-none, list-one, list-join, list-done, branch, elif, else, while, for, define, class, program}
 use Rattle.pyhyeon.specs.Rules.{Rule, Line, Block, E, tk, called, more, parameters, newlines, definition, elifs}
@@ -25,15 +26,29 @@ inner = newlines ⨾ linesOn ∕ act list-none
 abbrev pub indentedOn : Part Action Rule
 indentedOn = tk Indent ⨾ inner ⨾ tk Dedent
 
--- a Class's Dedent; its Methods after the first; from its Indent on; after its name
+-- one Elif, as a node
+abbrev pub elifOn : Part Action Rule
+elifOn = tk Elif ⨾ act mark ⨾ call E ⨾ call Block ⨾ act elif
+
+-- the Methods of a Class, or the Elifs of an If: the keyword, one of them, and those after the first
+abbrev pub leading : Bool → ℕ
+leading true = Def
+leading false = Elif
+
+abbrev pub member : Bool → Part Action Rule
+member true = definition kind.Method
+member false = elifOn
+
+abbrev pub others : Bool → Part Action Rule
+others true = many (more (definition kind.Method))
+others false = many (elifs ⨾ act list-join)
+
+-- a Class's Dedent; from its Indent on; after its name
 abbrev pub classEnd : Part Action Rule
 classEnd = tk Dedent ⨾ act class
 
-abbrev pub methodsRest : Part Action Rule
-methodsRest = many (more (definition kind.Method)) ⨾ act list-done ⨾ classEnd
-
 abbrev pub methodsOn : Part Action Rule
-methodsOn = tk Indent ⨾ definition kind.Method ⨾ act list-one ⨾ methodsRest
+methodsOn = tk Indent ⨾ definition kind.Method ⨾ act list-one ⨾ others true ⨾ act list-done ⨾ classEnd
 
 abbrev pub classOn : Part Action Rule
 classOn = tk Colon ⨾ tk Newline ⨾ newlines ⨾ methodsOn
@@ -45,12 +60,9 @@ givenOn k = parameters ⨾ tk RParen ⨾ call Block ⨾ act (define k)
 abbrev pub namedOn : ℕ → Part Action Rule
 namedOn k = called ⨾ tk LParen ⨾ givenOn k
 
--- the Elifs after the first; all Elifs; the Else; both, and the If; an If after its keyword
-abbrev pub elifsRest : Part Action Rule
-elifsRest = many (elifs ⨾ act list-join) ⨾ act list-done
-
+-- the Elifs; the Else; both, and the If; an If after its keyword
 abbrev pub elifsOn : Part Action Rule
-elifsOn = elifs ⨾ elifsRest ∕ act list-none
+elifsOn = elifs ⨾ others false ⨾ act list-done ∕ act list-none
 
 abbrev pub elseOn : Part Action Rule
 elseOn = tk Else ⨾ act mark ⨾ call Block ⨾ act else ⨾ act list-one ⨾ act list-done ∕ act list-none
@@ -60,10 +72,6 @@ branches = elifsOn ⨾ elseOn ⨾ act branch
 
 abbrev pub ifOn : Part Action Rule
 ifOn = call E ⨾ call Block ⨾ branches
-
--- one Elif, as a node
-abbrev pub elifOn : Part Action Rule
-elifOn = tk Elif ⨾ act mark ⨾ call E ⨾ call Block ⨾ act elif
 
 -- a While and a For after their keywords, and the For after `in`
 abbrev pub whileOn : Part Action Rule

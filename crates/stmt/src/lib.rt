@@ -2,8 +2,8 @@
 // one function that takes the running count of openings, raises it by one before it reads a token, and hands it on in every answer. The other
 // functions read parts of rules, and open nothing.
 //
-// Contracts are those of the expressions: `Rules` for a rule, `Parts` for a part of one; `Guards` for an E and the Block behind it. A Line gives a
-// list in the making (`a-growing`), a Block a list.
+// Contracts are those of the expressions: `Rules` for a rule, `Parts` for a part of one, `Lists` for the rest of a list; `Guards` for an E and the
+// Block behind it. A Line gives a list in the making (`a-growing`), a Block a list.
 ghost use mathlib.Core.Path.{_≡_};
 ghost use mathlib.Core.Bool.{true};
 ghost use mathlib.Core.List.{List, [], _∷_};
@@ -17,10 +17,10 @@ ghost use Rattle.pyhyeon.specs.Rules.{Line, Block, Class, tk};
 ghost use Rattle.pyhyeon.specs.Rules as rules;
 ghost use Rattle.pyhyeon.specs.Tables.{linesOn};
 ghost use Rattle.leaves.specs.Tokens.{eofAt, textBefore, symbolAt, Tokens};
-ghost use Rattle.leaves.specs.Contract.{a-node, a-list, a-growing, Rules, Parts, Ready, Begun};
+ghost use Rattle.leaves.specs.Contract.{a-node, a-list, a-growing, Rules, Parts, Lists, Ready, Begun};
 ghost use Rattle.simple.specs.Parts.{Newest};
 ghost use Rattle.stmt.specs.Guards.{Guards};
-ghost use Rattle.stmt.specs.Parts.{linesRest, inner, indentedOn, classOn, methodsOn, methodsRest, classEnd, namedOn, givenOn, elifsOn, elifsRest, elseOn, branches, ifOn, elifOn, whileOn, rangeOn, forOn};
+ghost use Rattle.stmt.specs.Parts.{linesRest, inner, indentedOn, classOn, leading, member, others, methodsOn, classEnd, namedOn, givenOn, elifsOn, elseOn, branches, ifOn, elifOn, whileOn, rangeOn, forOn};
 
 mod whole;
 
@@ -358,47 +358,17 @@ fn methods(
         };
         let one = method(src, toks, tree, left, on);
         match one {
-            Parsed::Node(n, after) => others(src, toks, tree, left, keyword, name, n, after),
+            Parsed::Node(n, after) => {
+                let rest = further(src, toks, tree, left, true, n, after);
+                match rest {
+                    Parsed::Node(m, done) => class_end(src, toks, tree, keyword, name, m, done),
+                    Parsed::Refused(code, done) => Parsed::Refused(code, done),
+                }
+            }
             Parsed::Refused(code, after) => Parsed::Refused(code, after),
         }
     } else {
         Parsed::Refused(14, s)
-    }
-}
-
-// The Methods after the first, and the Dedent.
-fn others(
-    src: &[u8],
-    toks: &[u32],
-    tree: &mut [u32],
-    left: u32,
-    keyword: TokenNumber,
-    name: TokenNumber,
-    first: NodeNumber,
-    s: State,
-) -> Parsed
-    requires { ⌜ Ready (now src) (now toks) (now tree) s 1 ⌝ }
-    requires { ⌜ (keyword .0 < s .at .0) × (name .0 < s .at .0) × (first .0 < s .nodes) ⌝ }
-    ensures { λ r. ⌜ Parts (now (src .entry)) (now (toks .entry)) left methodsRest (growing (first .0) (first .0) ∷ token (name .0) ∷ token (keyword .0) ∷ []) a-node s (now (tree .entry)) r (now (tree .exit)) ⌝ }
-    ensures { λ r. ⌜ Newest r ⌝ }
-{
-    let mut last = first;
-    let mut st = s;
-    loop {
-        let at = st.at;
-        if leaves::is_symbol(leaves::symbol_at(src, toks, at), token::DEF) {
-            let next = method(src, toks, tree, left, st);
-            match next {
-                Parsed::Node(n, after) => {
-                    leaves::link(tree, last, n, after);
-                    last = n;
-                    st = after;
-                }
-                Parsed::Refused(code, after) => return Parsed::Refused(code, after),
-            }
-        } else {
-            return class_end(src, toks, tree, keyword, name, first, st);
-        }
     }
 }
 
@@ -710,7 +680,7 @@ fn elifs(src: &[u8], toks: &[u32], tree: &mut [u32], left: u32, s: State) -> Par
     if leaves::is_symbol(leaves::symbol_at(src, toks, at), token::ELIF) {
         let one = elif(src, toks, tree, left, s);
         match one {
-            Parsed::Node(n, after) => further(src, toks, tree, left, n, after),
+            Parsed::Node(n, after) => further(src, toks, tree, left, false, n, after),
             Parsed::Refused(code, after) => Parsed::Refused(code, after),
         }
     } else {
@@ -718,25 +688,26 @@ fn elifs(src: &[u8], toks: &[u32], tree: &mut [u32], left: u32, s: State) -> Par
     }
 }
 
-// The Elifs after the first.
+// The Methods, or the Elifs, after the first: each is linked to the one before it.
 fn further(
     src: &[u8],
     toks: &[u32],
     tree: &mut [u32],
     left: u32,
+    methods: bool,
     first: NodeNumber,
     s: State,
 ) -> Parsed
     requires { ⌜ Ready (now src) (now toks) (now tree) s 1 ⌝ }
     requires { ⌜ first .0 < s .nodes ⌝ }
-    ensures { λ r. ⌜ Parts (now (src .entry)) (now (toks .entry)) left elifsRest (growing (first .0) (first .0) ∷ []) a-list s (now (tree .entry)) r (now (tree .exit)) ⌝ }
+    ensures { λ r. ⌜ Lists (now (src .entry)) (now (toks .entry)) left (others methods) (growing (first .0) (first .0) ∷ []) s (now (tree .entry)) r (now (tree .exit)) ⌝ }
 {
     let mut last = first;
     let mut st = s;
     loop {
         let at = st.at;
-        if leaves::is_symbol(leaves::symbol_at(src, toks, at), token::ELIF) {
-            let next = elif(src, toks, tree, left, st);
+        if leads(leaves::symbol_at(src, toks, at), methods) {
+            let next = member(src, toks, tree, left, methods, st);
             match next {
                 Parsed::Node(n, after) => {
                     leaves::link(tree, last, n, after);
@@ -748,6 +719,30 @@ fn further(
         } else {
             return Parsed::Node(first, st);
         }
+    }
+}
+
+// Whether the symbol is the keyword of a Method, or of an Elif.
+fn leads(symbol: u32, methods: bool) -> bool
+    ensures { λ r. ⌜ r ≡ mem symbol (leading methods ∷ []) ⌝ }
+{
+    if methods {
+        leaves::is_symbol(symbol, token::DEF)
+    } else {
+        leaves::is_symbol(symbol, token::ELIF)
+    }
+}
+
+// A Method, or an Elif, at its keyword.
+fn member(src: &[u8], toks: &[u32], tree: &mut [u32], left: u32, methods: bool, s: State) -> Parsed
+    requires { ⌜ Ready (now src) (now toks) (now tree) s 1 ⌝ }
+    requires { ⌜ mem (symbolAt (now src) (now toks) (s .at .0)) (leading methods ∷ []) ≡ true ⌝ }
+    ensures { λ r. ⌜ Parts (now (src .entry)) (now (toks .entry)) left (member methods) [] a-node s (now (tree .entry)) r (now (tree .exit)) ⌝ }
+{
+    if methods {
+        method(src, toks, tree, left, s)
+    } else {
+        elif(src, toks, tree, left, s)
     }
 }
 

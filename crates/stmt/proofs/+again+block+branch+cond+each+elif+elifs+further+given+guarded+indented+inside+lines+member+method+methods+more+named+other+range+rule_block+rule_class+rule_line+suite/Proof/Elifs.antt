@@ -1,6 +1,7 @@
 -- `stmt::elifs`, a member of the cycle.
 -- Assumes nothing.
 use Rattle.stmt.proofs.Branches.{taking-elif}
+use Rattle.stmt.proofs.Members.{rest-last}
 use Rattle.stmt.specs.Parts.{elifOn}
 use Rattle.joint.proofs.Loops.{ready-of}
 use Rattle.joint.proofs.Ends.{one-then, none-last}
@@ -15,13 +16,13 @@ use mathlib.Core.List.{[], _∷_}
 use borrow.Author.Needs.{needs}
 use native.Mathlib.Omega.{arith}
 use Prim.Native.Nat.{ℕ}
-use Rattle.stmt.proofs.+again+block+branch+cond+each+elif+elifs+further+given+guarded+indented+inside+lines+method+methods+more+named+other+others+range+rule_block+rule_class+rule_line+suite.Lts-elifs as lts
+use Rattle.stmt.proofs.+again+block+branch+cond+each+elif+elifs+further+given+guarded+indented+inside+lines+member+method+methods+more+named+other+range+rule_block+rule_class+rule_line+suite.Lts-elifs as lts
 use Rattle.stmt.proofs.elifs.Reads as reads
 use Rattle.leaves.proofs.symbol_at.Reads as symbol-at-reads
 use Rattle.leaves.proofs.is_symbol.Reads as is-symbol-reads
 use Rattle.stmt.proofs.elif.Reads as elif
 use Rattle.stmt.proofs.further.Reads as further
-use Rattle.stmt.proofs.+again+block+branch+cond+each+elif+elifs+further+given+guarded+indented+inside+lines+method+methods+more+named+other+others+range+rule_block+rule_class+rule_line+suite.Proof.Start.{elifs-at, elif-below, further-below}
+use Rattle.stmt.proofs.+again+block+branch+cond+each+elif+elifs+further+given+guarded+indented+inside+lines+member+method+methods+more+named+other+range+rule_block+rule_class+rule_line+suite.Proof.Start.{elifs-at, elif-below, further-below}
 
 abbrev calls : ℕ → lts.Claims
 calls t = (symbol-at-reads.Asked, symbol-at-reads.Learnt, is-symbol-reads.Asked, is-symbol-reads.Learnt, elif-below t, elif.Post, further-below t, further.Post)
@@ -80,7 +81,7 @@ module _ (t : ℕ) where
       let at-start = at-symbol-at .before .before .before .before .before in
       let r = at-start .pre .1 in
       let e = learnt (code.Elif ∷ []) (at-if1 .if1 .taken) (at-is-symbol .is-symbol .ensures) (at-symbol-at .symbol-at .ensures) in
-      record { comes = λ vs. or-first (r .here) e (flat (flat-then {p = elifOn} (at-elif .elif .ensures) (at-one .one .given .1) (one-then (at-further .further .ensures .comes vs)))) }
+      record { comes = λ vs. or-first (r .here) e (flat (flat-then {p = elifOn} (at-elif .elif .ensures) (at-one .one .given .1) (one-then (rest-last _ _ (at-further .further .ensures))))) }
 
   same-length-2 : lts.Need-same-length-2 (calls t) (elifs-at t) reads.Post
   same-length-2 c = search needs

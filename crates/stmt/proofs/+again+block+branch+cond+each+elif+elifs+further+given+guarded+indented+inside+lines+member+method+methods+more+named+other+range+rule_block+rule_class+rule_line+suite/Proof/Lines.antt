@@ -14,14 +14,14 @@ use Rattle.joint.proofs.Counts.{came-rule, came-growing, pays-line}
 use borrow.Author.Needs.{needs}
 use native.Mathlib.Omega.{arith}
 use Prim.Native.Nat.{ℕ}
-use Rattle.stmt.proofs.+again+block+branch+cond+each+elif+elifs+further+given+guarded+indented+inside+lines+method+methods+more+named+other+others+range+rule_block+rule_class+rule_line+suite.Lts-lines as lts
+use Rattle.stmt.proofs.+again+block+branch+cond+each+elif+elifs+further+given+guarded+indented+inside+lines+member+method+methods+more+named+other+range+rule_block+rule_class+rule_line+suite.Lts-lines as lts
 use Rattle.stmt.proofs.lines.Reads as reads
 use Rattle.leaves.proofs.symbol_at.Reads as symbol-at-reads
 use Rattle.stmt_leaves.proofs.begins_line.Reads as begins-line-reads
 use Rattle.stmt.proofs.rule_line.Reads as rule-line
 use Rattle.stmt_leaves.proofs.skip_newlines.Reads as skip-newlines-reads
 use Rattle.stmt.proofs.more.Reads as more
-use Rattle.stmt.proofs.+again+block+branch+cond+each+elif+elifs+further+given+guarded+indented+inside+lines+method+methods+more+named+other+others+range+rule_block+rule_class+rule_line+suite.Proof.Start.{lines-at, rule-line-below, more-below}
+use Rattle.stmt.proofs.+again+block+branch+cond+each+elif+elifs+further+given+guarded+indented+inside+lines+member+method+methods+more+named+other+range+rule_block+rule_class+rule_line+suite.Proof.Start.{lines-at, rule-line-below, more-below}
 
 abbrev calls : ℕ → lts.Claims
 calls t = (symbol-at-reads.Asked, symbol-at-reads.Learnt, begins-line-reads.Asked, begins-line-reads.Learnt, rule-line-below t, rule-line.Post, skip-newlines-reads.Asked, skip-newlines-reads.Learnt, more-below t, more.Post)

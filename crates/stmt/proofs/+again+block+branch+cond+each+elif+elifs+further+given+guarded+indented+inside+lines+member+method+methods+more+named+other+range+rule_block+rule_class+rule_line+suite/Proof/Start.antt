@@ -31,6 +31,8 @@ use Rattle.stmt.proofs.inside.Reads as inside
 use Rattle.stmt.proofs.inside.Kinds as inside-kinds
 use Rattle.stmt.proofs.lines.Reads as lines
 use Rattle.stmt.proofs.lines.Kinds as lines-kinds
+use Rattle.stmt.proofs.member.Reads as member
+use Rattle.stmt.proofs.member.Kinds as member-kinds
 use Rattle.stmt.proofs.method.Reads as method
 use Rattle.stmt.proofs.method.Kinds as method-kinds
 use Rattle.stmt.proofs.methods.Reads as methods
@@ -41,8 +43,6 @@ use Rattle.stmt.proofs.named.Reads as named
 use Rattle.stmt.proofs.named.Kinds as named-kinds
 use Rattle.stmt.proofs.other.Reads as other
 use Rattle.stmt.proofs.other.Kinds as other-kinds
-use Rattle.stmt.proofs.others.Reads as others
-use Rattle.stmt.proofs.others.Kinds as others-kinds
 use Rattle.stmt.proofs.range.Reads as range
 use Rattle.stmt.proofs.range.Kinds as range-kinds
 use Rattle.stmt.proofs.rule_block.Reads as rule-block
@@ -76,7 +76,7 @@ abbrev pub μ-elifs : Measures 3 elifs-kinds.ps ℕ
 μ-elifs κs a = 8 * (length (a .1 .0 .now) - 3 * a .1 .1 .1 .1 .0 .at .0) + 1
 
 abbrev pub μ-further : Measures 3 further-kinds.ps ℕ
-μ-further κs a = 8 * (length (a .1 .0 .now) - 3 * a .1 .1 .1 .1 .1 .0 .at .0) + 1
+μ-further κs a = 8 * (length (a .1 .0 .now) - 3 * a .1 .1 .1 .1 .1 .1 .0 .at .0) + 2
 
 abbrev pub μ-given : Measures 3 given-kinds.ps ℕ
 μ-given κs a = 8 * (length (a .1 .0 .now) - 3 * a .1 .1 .1 .1 .1 .1 .1 .0 .at .0) + 0
@@ -93,6 +93,9 @@ abbrev pub μ-inside : Measures 3 inside-kinds.ps ℕ
 abbrev pub μ-lines : Measures 3 lines-kinds.ps ℕ
 μ-lines κs a = 8 * (length (a .1 .0 .now) - 3 * a .1 .1 .1 .1 .0 .at .0) + 2
 
+abbrev pub μ-member : Measures 3 member-kinds.ps ℕ
+μ-member κs a = 8 * (length (a .1 .0 .now) - 3 * a .1 .1 .1 .1 .1 .0 .at .0) + 1
+
 abbrev pub μ-method : Measures 3 method-kinds.ps ℕ
 μ-method κs a = 8 * (length (a .1 .0 .now) - 3 * a .1 .1 .1 .1 .0 .at .0) + 0
 
@@ -107,9 +110,6 @@ abbrev pub μ-named : Measures 3 named-kinds.ps ℕ
 
 abbrev pub μ-other : Measures 3 other-kinds.ps ℕ
 μ-other κs a = 8 * (length (a .1 .0 .now) - 3 * a .1 .1 .1 .1 .0 .at .0) + 0
-
-abbrev pub μ-others : Measures 3 others-kinds.ps ℕ
-μ-others κs a = 8 * (length (a .1 .0 .now) - 3 * a .1 .1 .1 .1 .1 .1 .1 .0 .at .0) + 1
 
 abbrev pub μ-range : Measures 3 range-kinds.ps ℕ
 μ-range κs a = 8 * (length (a .1 .0 .now) - 3 * a .1 .1 .1 .1 .1 .1 .0 .at .0) + 1
@@ -204,6 +204,12 @@ lines-at t = and 3 lines-kinds.ps (is 3 lines-kinds.ps μ-lines t) lines.Pre
 abbrev pub lines-below : ℕ → In 3 lines-kinds.ps
 lines-below t = and 3 lines-kinds.ps (falls 3 lines-kinds.ps _<_ μ-lines t) lines.Pre
 
+abbrev pub member-at : ℕ → In 3 member-kinds.ps
+member-at t = and 3 member-kinds.ps (is 3 member-kinds.ps μ-member t) member.Pre
+
+abbrev pub member-below : ℕ → In 3 member-kinds.ps
+member-below t = and 3 member-kinds.ps (falls 3 member-kinds.ps _<_ μ-member t) member.Pre
+
 abbrev pub method-at : ℕ → In 3 method-kinds.ps
 method-at t = and 3 method-kinds.ps (is 3 method-kinds.ps μ-method t) method.Pre
 
@@ -233,12 +239,6 @@ other-at t = and 3 other-kinds.ps (is 3 other-kinds.ps μ-other t) other.Pre
 
 abbrev pub other-below : ℕ → In 3 other-kinds.ps
 other-below t = and 3 other-kinds.ps (falls 3 other-kinds.ps _<_ μ-other t) other.Pre
-
-abbrev pub others-at : ℕ → In 3 others-kinds.ps
-others-at t = and 3 others-kinds.ps (is 3 others-kinds.ps μ-others t) others.Pre
-
-abbrev pub others-below : ℕ → In 3 others-kinds.ps
-others-below t = and 3 others-kinds.ps (falls 3 others-kinds.ps _<_ μ-others t) others.Pre
 
 abbrev pub range-at : ℕ → In 3 range-kinds.ps
 range-at t = and 3 range-kinds.ps (is 3 range-kinds.ps μ-range t) range.Pre

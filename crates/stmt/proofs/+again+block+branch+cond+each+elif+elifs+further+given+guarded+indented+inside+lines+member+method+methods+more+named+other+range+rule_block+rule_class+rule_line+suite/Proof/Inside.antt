@@ -17,13 +17,13 @@ use Rattle.stmt.proofs.Blocks.{with-first, with-rest, with-none}
 use borrow.Author.Needs.{needs}
 use native.Mathlib.Omega.{arith}
 use Prim.Native.Nat.{ℕ}
-use Rattle.stmt.proofs.+again+block+branch+cond+each+elif+elifs+further+given+guarded+indented+inside+lines+method+methods+more+named+other+others+range+rule_block+rule_class+rule_line+suite.Lts-inside as lts
+use Rattle.stmt.proofs.+again+block+branch+cond+each+elif+elifs+further+given+guarded+indented+inside+lines+member+method+methods+more+named+other+range+rule_block+rule_class+rule_line+suite.Lts-inside as lts
 use Rattle.stmt.proofs.inside.Reads as reads
 use Rattle.stmt_leaves.proofs.skip_newlines.Reads as skip-newlines-reads
 use Rattle.stmt.proofs.lines.Reads as lines
 use Rattle.leaves.proofs.symbol_at.Reads as symbol-at-reads
 use Rattle.stmt_leaves.proofs.begins_line.Reads as begins-line-reads
-use Rattle.stmt.proofs.+again+block+branch+cond+each+elif+elifs+further+given+guarded+indented+inside+lines+method+methods+more+named+other+others+range+rule_block+rule_class+rule_line+suite.Proof.Start.{inside-at, lines-below}
+use Rattle.stmt.proofs.+again+block+branch+cond+each+elif+elifs+further+given+guarded+indented+inside+lines+member+method+methods+more+named+other+range+rule_block+rule_class+rule_line+suite.Proof.Start.{inside-at, lines-below}
 
 abbrev calls : ℕ → lts.Claims
 calls t = (skip-newlines-reads.Asked, skip-newlines-reads.Learnt, lines-below t, lines.Post, symbol-at-reads.Asked, symbol-at-reads.Learnt, begins-line-reads.Asked, begins-line-reads.Learnt)

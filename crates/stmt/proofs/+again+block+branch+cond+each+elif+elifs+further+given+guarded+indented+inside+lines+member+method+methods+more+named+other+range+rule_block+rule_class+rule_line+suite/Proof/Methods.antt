@@ -6,7 +6,7 @@ use Rattle.token.specs.Code as code
 use Rattle.leaves.proofs.Tests.{learnt}
 use Rattle.leaves.proofs.Tokens.{took}
 use Rattle.joint.proofs.Chain.{tok-then, tok-not, part-then, part-stop}
-use Rattle.joint.proofs.Ends.{one-then}
+use Rattle.joint.proofs.Ends.{one-then, done-then}
 use Rattle.joint.proofs.Loops.{ready-of}
 use Rattle.joint.proofs.Counts.{passed-start, passed-node}
 use Rattle.simple.proofs.Newest.{newest-refused}
@@ -14,16 +14,17 @@ use Rattle.stmt.proofs.Classes.{modest-method}
 use borrow.Author.Needs.{needs}
 use native.Mathlib.Omega.{arith}
 use Prim.Native.Nat.{ℕ}
-use Rattle.stmt.proofs.+again+block+branch+cond+each+elif+elifs+further+given+guarded+indented+inside+lines+method+methods+more+named+other+others+range+rule_block+rule_class+rule_line+suite.Lts-methods as lts
+use Rattle.stmt.proofs.+again+block+branch+cond+each+elif+elifs+further+given+guarded+indented+inside+lines+member+method+methods+more+named+other+range+rule_block+rule_class+rule_line+suite.Lts-methods as lts
 use Rattle.stmt.proofs.methods.Reads as reads
 use Rattle.leaves.proofs.symbol_at.Reads as symbol-at-reads
 use Rattle.leaves.proofs.is_symbol.Reads as is-symbol-reads
 use Rattle.stmt.proofs.method.Reads as method
-use Rattle.stmt.proofs.others.Reads as others
-use Rattle.stmt.proofs.+again+block+branch+cond+each+elif+elifs+further+given+guarded+indented+inside+lines+method+methods+more+named+other+others+range+rule_block+rule_class+rule_line+suite.Proof.Start.{methods-at, method-below, others-below}
+use Rattle.stmt.proofs.further.Reads as further
+use Rattle.stmt.proofs.class_end.Reads as class-end-reads
+use Rattle.stmt.proofs.+again+block+branch+cond+each+elif+elifs+further+given+guarded+indented+inside+lines+member+method+methods+more+named+other+range+rule_block+rule_class+rule_line+suite.Proof.Start.{methods-at, method-below, further-below}
 
 abbrev calls : ℕ → lts.Claims
-calls t = (symbol-at-reads.Asked, symbol-at-reads.Learnt, is-symbol-reads.Asked, is-symbol-reads.Learnt, method-below t, method.Post, others-below t, others.Post)
+calls t = (symbol-at-reads.Asked, symbol-at-reads.Learnt, is-symbol-reads.Asked, is-symbol-reads.Learnt, method-below t, method.Post, further-below t, further.Post, class-end-reads.Asked, class-end-reads.Learnt)
 
 module _ (t : ℕ) where
   symbol-at-requires : lts.Need-symbol-at-requires (calls t) (methods-at t) reads.Post
@@ -52,9 +53,29 @@ module _ (t : ℕ) where
   enum-known-one : lts.Need-enum-known-one (calls t) (methods-at t) reads.Post
   enum-known-one c = search needs
 
-  others-requires : lts.Need-others-requires (calls t) (methods-at t) reads.Post
-  others-requires c κs =
+  further-requires : lts.Need-further-requires (calls t) (methods-at t) reads.Post
+  further-requires c κs =
       let at-one = c .before .before in
+      let at-method = at-one .before .before .before .before in
+      let at-if1 = at-method .before .before .before in
+      let at-is-symbol = at-if1 .before in
+      let at-symbol-at = at-is-symbol .before in
+      let at-start = at-symbol-at .before .before .before .before .before in
+      let r = at-start .pre .1 .0 in
+      let e = learnt (code.Indent ∷ []) (at-if1 .if1 .taken) (at-is-symbol .is-symbol .ensures) (at-symbol-at .symbol-at .ensures) in
+      let l = took (code.Indent ∷ []) refl refl (r .tokens) (r .here) e in
+      let g = passed-start _ _ (r .tokens) modest-method (l .inside) (at-method .method .ensures) (at-one .one .given .1) in
+      let k = at-method .method .kept .1 .1 .0 in
+      (omega arith, (ready-of (r .tokens) (omega arith), passed-node g))
+
+  enum-known-rest : lts.Need-enum-known-rest (calls t) (methods-at t) reads.Post
+  enum-known-rest c = search needs
+
+  class-end-requires : lts.Need-class-end-requires (calls t) (methods-at t) reads.Post
+  class-end-requires c κs =
+      let at-rest = c .before .before in
+      let at-further = at-rest .before .before .before .before in
+      let at-one = at-further .before .before .before in
       let at-method = at-one .before .before .before .before in
       let at-if1 = at-method .before .before .before in
       let at-is-symbol = at-if1 .before in
@@ -65,8 +86,11 @@ module _ (t : ℕ) where
       let e = learnt (code.Indent ∷ []) (at-if1 .if1 .taken) (at-is-symbol .is-symbol .ensures) (at-symbol-at .symbol-at .ensures) in
       let l = took (code.Indent ∷ []) refl refl (r .tokens) (r .here) e in
       let g = passed-start _ _ (r .tokens) modest-method (l .inside) (at-method .method .ensures) (at-one .one .given .1) in
-      let k = at-method .method .kept .1 .1 .0 in
-      (omega arith, (ready-of (r .tokens) (omega arith), (omega arith, omega arith, passed-node g)))
+      let d = at-further .further .ensures .leads _ _ (at-rest .rest .given .1) in
+      (d .ready, omega (arith, p .0, p .1, g .on, d .on))
+
+  enum-known-rest-2 : lts.Need-enum-known-rest-2 (calls t) (methods-at t) reads.Post
+  enum-known-rest-2 c = search needs
 
   enum-known-one-2 : lts.Need-enum-known-one-2 (calls t) (methods-at t) reads.Post
   enum-known-one-2 c = search needs
@@ -76,8 +100,10 @@ module _ (t : ℕ) where
 
   returns : lts.Need-returns (calls t) (methods-at t) reads.Post
   returns c =
-      let at-others = c .before .before in
-      let at-one = at-others .before .before .before in
+      let at-class-end = c .before .before in
+      let at-rest = at-class-end .before .before .before in
+      let at-further = at-rest .before .before .before .before in
+      let at-one = at-further .before .before .before in
       let at-method = at-one .before .before .before .before in
       let at-if1 = at-method .before .before .before in
       let at-is-symbol = at-if1 .before in
@@ -85,13 +111,31 @@ module _ (t : ℕ) where
       let at-start = at-symbol-at .before .before .before .before .before in
       let r = at-start .pre .1 .0 in
       let e = learnt (code.Indent ∷ []) (at-if1 .if1 .taken) (at-is-symbol .is-symbol .ensures) (at-symbol-at .symbol-at .ensures) in
-      (record { comes = λ vs. tok-then (r .here) e (part-then (at-method .method .ensures) (at-one .one .given .1) (one-then (at-others .others .ensures .0 .comes vs))) }, at-others .others .ensures .1)
+      let d = at-further .further .ensures .leads _ _ (at-rest .rest .given .1) in
+      (record { comes = λ vs. tok-then (r .here) e (part-then (at-method .method .ensures) (at-one .one .given .1) (one-then (d .same _ _ _ _ (done-then (at-class-end .class-end .ensures .0 _ .comes vs))))) }, at-class-end .class-end .ensures .1)
 
   same-length-2 : lts.Need-same-length-2 (calls t) (methods-at t) reads.Post
   same-length-2 c = search needs
 
   returns-2 : lts.Need-returns-2 (calls t) (methods-at t) reads.Post
   returns-2 c =
+      let at-rest2 = c .before in
+      let at-further = at-rest2 .before .before .before .before in
+      let at-one = at-further .before .before .before in
+      let at-method = at-one .before .before .before .before in
+      let at-if1 = at-method .before .before .before in
+      let at-is-symbol = at-if1 .before in
+      let at-symbol-at = at-is-symbol .before in
+      let at-start = at-symbol-at .before .before .before .before .before in
+      let r = at-start .pre .1 .0 in
+      let e = learnt (code.Indent ∷ []) (at-if1 .if1 .taken) (at-is-symbol .is-symbol .ensures) (at-symbol-at .symbol-at .ensures) in
+      (record { comes = λ vs. tok-then (r .here) e (part-then (at-method .method .ensures) (at-one .one .given .1) (one-then (at-further .further .ensures .stops _ _ _ (at-rest2 .rest2 .given .1) _ _ _))) }, newest-refused)
+
+  same-length-3 : lts.Need-same-length-3 (calls t) (methods-at t) reads.Post
+  same-length-3 c = search needs
+
+  returns-3 : lts.Need-returns-3 (calls t) (methods-at t) reads.Post
+  returns-3 c =
       let at-one2 = c .before in
       let at-method = at-one2 .before .before .before .before in
       let at-if1 = at-method .before .before .before in
@@ -102,8 +146,8 @@ module _ (t : ℕ) where
       let e = learnt (code.Indent ∷ []) (at-if1 .if1 .taken) (at-is-symbol .is-symbol .ensures) (at-symbol-at .symbol-at .ensures) in
       (record { comes = λ vs. tok-then (r .here) e (part-stop _ (at-method .method .ensures) (at-one2 .one2 .given .1)) }, newest-refused)
 
-  returns-3 : lts.Need-returns-3 (calls t) (methods-at t) reads.Post
-  returns-3 c =
+  returns-4 : lts.Need-returns-4 (calls t) (methods-at t) reads.Post
+  returns-4 c =
       let at-is-symbol = c .before in
       let at-symbol-at = at-is-symbol .before in
       let at-start = at-symbol-at .before .before .before .before .before in
@@ -112,4 +156,4 @@ module _ (t : ℕ) where
       (record { comes = λ vs. tok-not (r .here) (r .used) e }, newest-refused)
 
   pub meets : {M : Type 1} → lts.Closed (calls t) (methods-at t) reads.Post M
-  meets = lts.spec (calls t) (methods-at t) reads.Post symbol-at-requires is-symbol-requires add-t method-requires enum-known-one others-requires enum-known-one-2 same-length returns same-length-2 returns-2 returns-3
+  meets = lts.spec (calls t) (methods-at t) reads.Post symbol-at-requires is-symbol-requires add-t method-requires enum-known-one further-requires enum-known-rest class-end-requires enum-known-rest-2 enum-known-one-2 same-length returns same-length-2 returns-2 same-length-3 returns-3 returns-4
