@@ -1,3 +1,2 @@
-pub mod Atoms
 pub mod Levels
 pub mod Low

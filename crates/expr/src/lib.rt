@@ -23,7 +23,6 @@ ghost use Rattle.pyhyeon.specs.Action.{empty};
 ghost use Rattle.expr.specs.Levels.{Goes, Follows};
 ghost use Rattle.expr.specs.Parts.{operand, operators, term, chained, compares, member, others, closes, enclosed, lambdaOn, lambdaBody, teeOn, valued, pairsRest, tupleRest, roundOn, callOn, indexOn};
 
-mod alone;
 mod comma;
 mod parameters;
 
@@ -146,37 +145,22 @@ fn body(
     }
 }
 
-// O: A by `or`. An atom alone takes the short way through the seven rules from here to F.
+// O: A by `or`.
 fn rule_o(src: &[u8], toks: &[u32], tree: &mut [u32], left: u32, s: State) -> Parsed
     requires { ⌜ Ready (now src) (now toks) (now tree) s 4 ⌝ }
     requires { ⌜ Begun (now src) (now toks) s O ⌝ }
     ensures { λ r. ⌜ Rules (now (src .entry)) (now (toks .entry)) left O a-node s (now (tree .entry)) r (now (tree .exit)) ⌝ }
 {
     let at = s.at;
-    let symbol = leaves::symbol_at(src, toks, at);
-    if alone::alone(src, toks, symbol, at) {
-        let opened = s.opened + 7;
-        let on = State {
-            at: at,
-            nodes: s.nodes,
-            opened: opened,
-            used: s.used,
-        };
-        let made = alone::atom(src, toks, tree, symbol, on);
-        let n = made.0;
-        let after = made.1;
-        Parsed::Node(n, after)
-    } else {
-        let opened = s.opened + 1;
-        let up = State {
-            at: at,
-            nodes: s.nodes,
-            opened: opened,
-            used: s.used,
-        };
-        let inner = rule_a(src, toks, tree, left, up);
-        by(src, toks, tree, left, OR, inner)
-    }
+    let opened = s.opened + 1;
+    let up = State {
+        at: at,
+        nodes: s.nodes,
+        opened: opened,
+        used: s.used,
+    };
+    let inner = rule_a(src, toks, tree, left, up);
+    by(src, toks, tree, left, OR, inner)
 }
 
 // A: C by `and`.
@@ -350,7 +334,7 @@ fn rule_p(src: &[u8], toks: &[u32], tree: &mut [u32], left: u32, s: State) -> Pa
     by(src, toks, tree, left, PRODUCT, inner)
 }
 
-// What was read of a level so far, and then its operators, if one stands next.
+// The answer to a level's first operand, and then the level's operators, if one stands next.
 fn by(src: &[u8], toks: &[u32], tree: &mut [u32], left: u32, level: u32, inner: Parsed) -> Parsed
     requires { ⌜ Goes (now src) (now toks) (now tree) inner ⌝ }
     ensures { λ r. ⌜ Follows (now (src .entry)) (now (toks .entry)) left (many (term (operand level) (operators level))) inner (now (tree .entry)) r (now (tree .exit)) ⌝ }
@@ -491,14 +475,13 @@ fn rule_f(src: &[u8], toks: &[u32], tree: &mut [u32], left: u32, s: State) -> Pa
     }
 }
 
-// What stands before the postfix parts: a bracket, the name `t`, or else an atom.
+// What stands before the postfix parts: a bracket, the name `t`, a name, or else a literal.
 fn head(src: &[u8], toks: &[u32], tree: &mut [u32], left: u32, s: State) -> Parsed
     requires { ⌜ Ready (now src) (now toks) (now tree) s 11 ⌝ }
     requires { ⌜ Begun (now src) (now toks) s F ⌝ }
     ensures { λ r. ⌜ Parts (now (src .entry)) (now (toks .entry)) left primary [] a-node s (now (tree .entry)) r (now (tree .exit)) ⌝ }
 {
     let at = s.at;
-    let symbol = leaves::symbol_at(src, toks, at);
     let t = at.0 + 1;
     let on = State {
         at: TokenNumber(t),
@@ -506,13 +489,19 @@ fn head(src: &[u8], toks: &[u32], tree: &mut [u32], left: u32, s: State) -> Pars
         opened: s.opened,
         used: s.used,
     };
-    match symbol {
+    match leaves::symbol_at(src, toks, at) {
         token::LBRACKET => shown(src, toks, tree, left, at, token::RBRACKET, ast::LIST, on),
         leaves::TEE => tee(src, toks, tree, left, at, on),
         token::LBRACE => braces(src, toks, tree, left, at, on),
         token::LPAREN => round(src, toks, tree, left, at, on),
+        token::IDENTIFIER => {
+            let made = leaves::put_named(toks, tree, ast::VARIABLE, on);
+            let n = made.0;
+            let after = made.1;
+            Parsed::Node(n, after)
+        }
         _ => {
-            let made = alone::atom(src, toks, tree, symbol, s);
+            let made = leaves::put_literal(src, toks, tree, on);
             let n = made.0;
             let after = made.1;
             Parsed::Node(n, after)

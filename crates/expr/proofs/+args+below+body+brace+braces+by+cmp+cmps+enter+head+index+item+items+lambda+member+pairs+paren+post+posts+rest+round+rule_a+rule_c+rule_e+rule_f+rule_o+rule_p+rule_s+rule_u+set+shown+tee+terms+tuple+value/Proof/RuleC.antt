@@ -1,10 +1,9 @@
 -- `expr::rule_c`, a member of the cycle.
 -- Assumes nothing.
-use Rattle.expr.proofs.Atoms.{c-ends}
 use Rattle.pyhyeon.specs.Rules.{comparisons}
 use Rattle.joint.proofs.Loops.{ready-of}
 use Rattle.joint.proofs.Ends.{tok-mark}
-use Rattle.joint.proofs.Chain.{called, part-then, part-stop, or-first, open-plain}
+use Rattle.joint.proofs.Chain.{called, part-then, part-stop, or-first, or-next, skip-end, open-plain}
 use Rattle.joint.proofs.Bounds.{after-rule, spares-s}
 use Rattle.leaves.proofs.Tokens.{before-eof, took}
 use Rattle.leaves.proofs.Tests.{learnt}
@@ -107,7 +106,7 @@ module _ (t : ℕ) where
   same-length-2 c = search needs
 
   returns-2 : lts.Need-returns-2 (calls t) (rule-c-at t) reads.Post
-  unfolding first rank
+  unfolding joined plain first opens rank begins null
   returns-2 c =
       let at-is-comparison = c .before in
       let at-symbol-at = at-is-comparison .before in
@@ -118,7 +117,8 @@ module _ (t : ℕ) where
       let lt = before-eof firstU refl (r .tokens) (r .here) (at-start .pre .1 .1 .seen) in
       let g = after-rule _ _ (r .tokens) spares-s lt (at-rule-s .rule-s .ensures) (at-inner .inner .given .1) in
       let e = learnt comparisons (c .if1 .left) (at-is-comparison .is-comparison .ensures) (at-symbol-at .symbol-at .ensures) in
-      c-ends (r .here) (at-start .pre .1 .1 .seen) (g .here) (g .used) e (rw (at-inner .inner .given .1) at (at-rule-s .rule-s .ensures))
+      let up = called (r .here) (at-start .pre .1 .1 .seen) (at-rule-s .rule-s .ensures) in
+      open-plain refl (λ vs. part-then up (at-inner .inner .given .1) (or-next (g .here) e (skip-end (g .used))))
 
   same-length-3 : lts.Need-same-length-3 (calls t) (rule-c-at t) reads.Post
   same-length-3 c = search needs
