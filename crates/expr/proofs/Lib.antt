@@ -1,2 +1,3 @@
-pub mod Levels
+pub mod Grouping
+pub mod Standing
 pub mod Low

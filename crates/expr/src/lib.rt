@@ -14,33 +14,26 @@ ghost use Rattle.token.specs.Code.{Eof, String, Dot, LParen, RParen, LBracket};
 ghost use Rattle.pyhyeon.specs.Machine.{token, node, growing, list, chain};
 ghost use Rattle.pyhyeon.specs.Rules.{E, O, C, S, P, U, F, entry, postfix};
 ghost use Rattle.pyhyeon.specs.Rules as rules;
-ghost use Rattle.pyhyeon.specs.Tables.{firstU, primary, pairsOn, setOn};
+ghost use Rattle.pyhyeon.specs.Tables.{primary, pairsOn, setOn};
 ghost use Rattle.pyhyeon.specs.Tables as tables;
 ghost use Rattle.leaves.specs.Tokens.{symbolAt};
 ghost use Rattle.leaves.specs.Contract.{a-node, a-list, Rules, Parts, Lists, Ready, Begun};
 ghost use Rattle.ast.specs.Kind as kind;
 ghost use Rattle.pyhyeon.specs.Action.{empty};
-ghost use Rattle.expr.specs.Levels.{Goes, Follows};
-ghost use Rattle.expr.specs.Parts.{operand, operators, term, chained, compares, member, others, closes, enclosed, lambdaOn, lambdaBody, teeOn, valued, pairsRest, tupleRest, roundOn, callOn, indexOn};
+ghost use Rattle.expr.specs.Parts.{chained, compares, member, others, closes, enclosed, lambdaOn, lambdaBody, teeOn, valued, pairsRest, tupleRest, roundOn, callOn, indexOn};
 
 mod comma;
+mod levels;
 mod parameters;
 
 pub use comma::comma_list;
 use leaves::Parsed;
 use leaves::State;
+use levels::Before;
+use levels::Behind;
 pub use parameters::names;
 use token::NodeNumber;
 use token::TokenNumber;
-
-// The four levels of operators that group left: O, A, S and P.
-const OR: u32 = 0;
-
-const AND: u32 = 1;
-
-const SUM: u32 = 2;
-
-const PRODUCT: u32 = 3;
 
 // E: lambda names : E, or O. Room is asked for before the opening counts.
 pub fn rule_e(src: &[u8], toks: &[u32], tree: &mut [u32], left: u32, s: State) -> Parsed
@@ -159,8 +152,29 @@ fn rule_o(src: &[u8], toks: &[u32], tree: &mut [u32], left: u32, s: State) -> Pa
         opened: opened,
         used: s.used,
     };
-    let inner = rule_a(src, toks, tree, left, up);
-    by(src, toks, tree, left, OR, inner)
+    let mut st = up;
+    let mut before = Before::Nothing;
+    loop {
+        let inner = rule_a(src, toks, tree, left, st);
+        match inner {
+            Parsed::Node(n, after) => {
+                let made = levels::joined(toks, tree, before, n, after);
+                let l = made.0;
+                let now = made.1;
+                let behind = levels::look(src, toks, levels::OR, now);
+                match behind {
+                    Behind::Operand(on) => {
+                        let op = now.at;
+                        before = Before::Operator(op, l);
+                        st = on;
+                    }
+                    Behind::Nothing => return Parsed::Node(l, now),
+                    Behind::Missing(on) => return Parsed::Refused(14, on),
+                }
+            }
+            Parsed::Refused(code, after) => return Parsed::Refused(code, after),
+        }
+    }
 }
 
 // A: C by `and`.
@@ -177,8 +191,29 @@ fn rule_a(src: &[u8], toks: &[u32], tree: &mut [u32], left: u32, s: State) -> Pa
         opened: opened,
         used: s.used,
     };
-    let inner = rule_c(src, toks, tree, left, up);
-    by(src, toks, tree, left, AND, inner)
+    let mut st = up;
+    let mut before = Before::Nothing;
+    loop {
+        let inner = rule_c(src, toks, tree, left, st);
+        match inner {
+            Parsed::Node(n, after) => {
+                let made = levels::joined(toks, tree, before, n, after);
+                let l = made.0;
+                let now = made.1;
+                let behind = levels::look(src, toks, levels::AND, now);
+                match behind {
+                    Behind::Operand(on) => {
+                        let op = now.at;
+                        before = Before::Operator(op, l);
+                        st = on;
+                    }
+                    Behind::Nothing => return Parsed::Node(l, now),
+                    Behind::Missing(on) => return Parsed::Refused(14, on),
+                }
+            }
+            Parsed::Refused(code, after) => return Parsed::Refused(code, after),
+        }
+    }
 }
 
 // C: S by comparisons. `a<b<c` is And(a<b, b<c), whose b is one node.
@@ -312,8 +347,29 @@ fn rule_s(src: &[u8], toks: &[u32], tree: &mut [u32], left: u32, s: State) -> Pa
         opened: opened,
         used: s.used,
     };
-    let inner = rule_p(src, toks, tree, left, up);
-    by(src, toks, tree, left, SUM, inner)
+    let mut st = up;
+    let mut before = Before::Nothing;
+    loop {
+        let inner = rule_p(src, toks, tree, left, st);
+        match inner {
+            Parsed::Node(n, after) => {
+                let made = levels::joined(toks, tree, before, n, after);
+                let l = made.0;
+                let now = made.1;
+                let behind = levels::look(src, toks, levels::SUM, now);
+                match behind {
+                    Behind::Operand(on) => {
+                        let op = now.at;
+                        before = Before::Operator(op, l);
+                        st = on;
+                    }
+                    Behind::Nothing => return Parsed::Node(l, now),
+                    Behind::Missing(on) => return Parsed::Refused(14, on),
+                }
+            }
+            Parsed::Refused(code, after) => return Parsed::Refused(code, after),
+        }
+    }
 }
 
 // P: U by * // / %.
@@ -330,96 +386,28 @@ fn rule_p(src: &[u8], toks: &[u32], tree: &mut [u32], left: u32, s: State) -> Pa
         opened: opened,
         used: s.used,
     };
-    let inner = rule_u(src, toks, tree, left, up);
-    by(src, toks, tree, left, PRODUCT, inner)
-}
-
-// The answer to a level's first operand, and then the level's operators, if one stands next.
-fn by(src: &[u8], toks: &[u32], tree: &mut [u32], left: u32, level: u32, inner: Parsed) -> Parsed
-    requires { ⌜ Goes (now src) (now toks) (now tree) inner ⌝ }
-    ensures { λ r. ⌜ Follows (now (src .entry)) (now (toks .entry)) left (many (term (operand level) (operators level))) inner (now (tree .entry)) r (now (tree .exit)) ⌝ }
-{
-    match inner {
-        Parsed::Node(n, after) => {
-            if is_operator(level, leaves::symbol_at(src, toks, after.at)) {
-                terms(src, toks, tree, left, level, n, after)
-            } else {
-                inner
-            }
-        }
-        Parsed::Refused(code, after) => inner,
-    }
-}
-
-// The operators of a level, each with its right operand, while one stands next. All group left.
-fn terms(
-    src: &[u8],
-    toks: &[u32],
-    tree: &mut [u32],
-    left: u32,
-    level: u32,
-    first: NodeNumber,
-    s: State,
-) -> Parsed
-    requires { ⌜ Ready (now src) (now toks) (now tree) s 1 ⌝ }
-    requires { ⌜ first .0 < s .nodes ⌝ }
-    ensures { λ r. ⌜ Parts (now (src .entry)) (now (toks .entry)) left (many (term (operand level) (operators level))) (node (first .0) ∷ []) a-node s (now (tree .entry)) r (now (tree .exit)) ⌝ }
-{
-    let mut l = first;
-    let mut st = s;
+    let mut st = up;
+    let mut before = Before::Nothing;
     loop {
-        let op = st.at;
-        if is_operator(level, leaves::symbol_at(src, toks, op)) {
-            let t = op.0 + 1;
-            let next = TokenNumber(t);
-            let on = State {
-                at: next,
-                nodes: st.nodes,
-                opened: st.opened,
-                used: st.used,
-            };
-            if leaves::begins_u(leaves::symbol_at(src, toks, next)) {
-                let right = below(src, toks, tree, left, level, on);
-                match right {
-                    Parsed::Node(r, after) => {
-                        let made = leaves::put_binary(toks, tree, op, l, r, after);
-                        l = made.0;
-                        st = made.1;
+        let inner = rule_u(src, toks, tree, left, st);
+        match inner {
+            Parsed::Node(n, after) => {
+                let made = levels::joined(toks, tree, before, n, after);
+                let l = made.0;
+                let now = made.1;
+                let behind = levels::look(src, toks, levels::PRODUCT, now);
+                match behind {
+                    Behind::Operand(on) => {
+                        let op = now.at;
+                        before = Before::Operator(op, l);
+                        st = on;
                     }
-                    Parsed::Refused(code, after) => return Parsed::Refused(code, after),
+                    Behind::Nothing => return Parsed::Node(l, now),
+                    Behind::Missing(on) => return Parsed::Refused(14, on),
                 }
-            } else {
-                return Parsed::Refused(14, on);
             }
-        } else {
-            return Parsed::Node(l, st);
+            Parsed::Refused(code, after) => return Parsed::Refused(code, after),
         }
-    }
-}
-
-// The right operand of a level.
-fn below(src: &[u8], toks: &[u32], tree: &mut [u32], left: u32, level: u32, s: State) -> Parsed
-    requires { ⌜ Ready (now src) (now toks) (now tree) s 1 ⌝ }
-    requires { ⌜ mem (symbolAt (now src) (now toks) (s .at .0)) firstU ≡ true ⌝ }
-    ensures { λ r. ⌜ Rules (now (src .entry)) (now (toks .entry)) left (operand level) a-node s (now (tree .entry)) r (now (tree .exit)) ⌝ }
-{
-    match level {
-        OR => rule_a(src, toks, tree, left, s),
-        AND => rule_c(src, toks, tree, left, s),
-        SUM => rule_p(src, toks, tree, left, s),
-        _ => rule_u(src, toks, tree, left, s),
-    }
-}
-
-// Whether the symbol is an operator of the level.
-fn is_operator(level: u32, symbol: u32) -> bool
-    ensures { λ r. ⌜ r ≡ mem symbol (operators level) ⌝ }
-{
-    match level {
-        OR => leaves::is_symbol(symbol, token::OR),
-        AND => leaves::is_symbol(symbol, token::AND),
-        SUM => leaves::is_add(symbol),
-        _ => leaves::is_multiply(symbol),
     }
 }
 

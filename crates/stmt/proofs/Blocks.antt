@@ -15,7 +15,7 @@ use Rattle.pyhyeon.specs.Machine.{Value, one}
 use Rattle.pyhyeon.specs.Action.{Action, list-one, list-join, list-done, perform}
 use Rattle.pyhyeon.specs.Rules.{Rule, Line, newlines}
 use Rattle.pyhyeon.specs.Tables.{first, least, rank, linesOn, pyhyeon}
-use Rattle.pyhyeon.specs.Prices.{writes, needs, gives, prices}
+use Rattle.pyhyeon.specs.Prices.{writes, needs, gives}
 use Rattle.leaves.specs.declared.State.{State}
 use Rattle.leaves.specs.declared.Parsed.{Parsed}
 use Rattle.leaves.specs.declared.Parsed.the-variants.{Node, Refused}

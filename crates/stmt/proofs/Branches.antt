@@ -7,7 +7,7 @@ use Rattle.grammar.specs.Limits.{clean, credit, afford}
 use Rattle.pyhyeon.specs.Action.{list-join}
 use Rattle.pyhyeon.specs.Rules.{elifs}
 use Rattle.pyhyeon.specs.Tables.{first, least, rank, pyhyeon}
-use Rattle.pyhyeon.specs.Prices.{writes, needs, gives, prices}
+use Rattle.pyhyeon.specs.Prices.{writes, needs, gives}
 use Rattle.joint.proofs.Counts.{Modest}
 use Rattle.joint.proofs.Counts.{Taking}
 use Rattle.stmt.specs.Parts.{elifOn, elifsOn, elseOn}
