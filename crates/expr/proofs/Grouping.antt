@@ -8,15 +8,16 @@ use native.Mathlib.Omega.{arith}
 use lib.Dec.{T}
 use lib.ListN.{length, getD}
 use Rattle.grammar.specs.Sets.{mem}
-use Rattle.grammar.specs.Grammar.{call, many, _⨾_}
+use Rattle.grammar.specs.Grammar.{Part, act, tok, call, many, _⨾_}
 use Rattle.grammar.specs.Descent.{null, begins}
 use Rattle.grammar.specs.Check.{low, takes}
 use Rattle.token.specs.Code.{String, Eof}
 use Rattle.token.specs.declared.TokenNumber.{TokenNumber}
 use Rattle.token.specs.declared.NodeNumber.{NodeNumber}
 use Rattle.pyhyeon.specs.Machine.{Value, node}
+use Rattle.pyhyeon.specs.Action.{Action, mark, binary}
 use Rattle.pyhyeon.specs.Rules as rules
-use Rattle.pyhyeon.specs.Rules.{Rule, O, S, P, U, level, plain}
+use Rattle.pyhyeon.specs.Rules.{Rule, O, S, P, level, plain}
 use Rattle.pyhyeon.specs.Tables.{joined, first, firstU, least, rank, opens, pyhyeon}
 use Rattle.leaves.specs.declared.State.{State}
 use Rattle.leaves.specs.declared.Added.{Added}
@@ -32,7 +33,14 @@ use Rattle.joint.proofs.Loops.{ready-of}
 use Rattle.expr.specs.declared.levels.Before.{Before}
 use Rattle.expr.specs.declared.levels.Before.the-variants as before
 use Rattle.expr.specs.Levels.{hand, joining, Held, Joined}
-use Rattle.expr.specs.Parts.{operand, operators, term}
+use Rattle.expr.specs.Parts.{operators}
+
+-- the operands of the levels, and an operator with its right operand
+abbrev pub operand : ℕ → Rule
+operand level = getD (rules.A ∷ rules.C ∷ rules.P ∷ []) level rules.U
+
+abbrev pub term : Rule → List ℕ → Part Action Rule
+term r ops = tok ops ⨾ act mark ⨾ call r ⨾ act binary
 
 -- each operand begins with what begins U
 pub first-same : (l : ℕ) → first (operand l) ≡ firstU

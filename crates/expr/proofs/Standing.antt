@@ -2,7 +2,7 @@
 -- Assumes nothing.
 use mathlib.Core.Path.{_≡_, refl, sym}
 use mathlib.Core.Bool.{true, false}
-use mathlib.Core.List.{List}
+use mathlib.Core.List.{List, [], _∷_}
 use Prim.Native.Nat.{ℕ, _+_}
 use native.Mathlib.Omega.{arith}
 use Rattle.grammar.specs.Sets.{mem}
@@ -20,7 +20,6 @@ use Rattle.expr.specs.declared.levels.Before.the-variants as before
 use Rattle.expr.specs.declared.levels.Behind.the-variants as behind
 use Rattle.expr.specs.Levels.{Joined, Stands}
 use Rattle.expr.specs.Parts.{operators}
-use mathlib.Core.List.{[], _∷_}
 
 module _ {src toks : List ℕ} {level : ℕ} {s : State} where
   pub stands-nothing : mem (symbolAt src toks (s .at .0)) (operators level) ≡ false → Stands src toks level s behind.Nothing

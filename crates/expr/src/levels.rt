@@ -26,7 +26,8 @@ pub enum Before {
     Operator(TokenNumber, NodeNumber),
 }
 
-// What stands behind an operand: nothing of its level; an operator and what can begin an operand, with the state there; or an operator and nothing that can.
+// What stands behind an operand: nothing of its level; an operator and what can begin an operand, with the state there; or an operator and nothing that
+// can.
 pub enum Behind {
     Nothing,
     Operand(State),
@@ -45,7 +46,7 @@ fn is_operator(level: u32, symbol: u32) -> bool
     }
 }
 
-// The operand n, and what stands before it.
+// The operand n joined to what stands before it: a Binary where that is an operator, else the operand alone.
 pub fn joined(toks: &[u32], tree: &mut [u32], before: Before, n: NodeNumber, s: State) -> Added
     requires { ⌜ Spot (now toks) (now tree) s ⌝ }
     requires { ⌜ Held before s ⌝ }

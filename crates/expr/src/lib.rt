@@ -3,7 +3,8 @@
 // parentheses, postfix parts and t, and open nothing.
 //
 // The contract of a rule is `Rules`: its answer, and the nodes in the tree, are what the descent of the rule comes to. That of a function that has a
-// part of a rule is `Parts`, with the values that are at hand, which are its parameters; `Lists` for the rest of a list.
+// part of a rule is `Parts`, with the values that are at hand, which are its parameters; `Lists` for the rest of a list. What the levels of operators
+// share stands in levels.rt, with contracts of its own.
 ghost use mathlib.Core.Path.{_≡_};
 ghost use mathlib.Core.Bool.{true, false};
 ghost use mathlib.Core.List.{[], _∷_};
@@ -160,15 +161,15 @@ fn rule_o(src: &[u8], toks: &[u32], tree: &mut [u32], left: u32, s: State) -> Pa
             Parsed::Node(n, after) => {
                 let made = levels::joined(toks, tree, before, n, after);
                 let l = made.0;
-                let now = made.1;
-                let behind = levels::look(src, toks, levels::OR, now);
+                let done = made.1;
+                let behind = levels::look(src, toks, levels::OR, done);
                 match behind {
                     Behind::Operand(on) => {
-                        let op = now.at;
+                        let op = done.at;
                         before = Before::Operator(op, l);
                         st = on;
                     }
-                    Behind::Nothing => return Parsed::Node(l, now),
+                    Behind::Nothing => return Parsed::Node(l, done),
                     Behind::Missing(on) => return Parsed::Refused(14, on),
                 }
             }
@@ -199,15 +200,15 @@ fn rule_a(src: &[u8], toks: &[u32], tree: &mut [u32], left: u32, s: State) -> Pa
             Parsed::Node(n, after) => {
                 let made = levels::joined(toks, tree, before, n, after);
                 let l = made.0;
-                let now = made.1;
-                let behind = levels::look(src, toks, levels::AND, now);
+                let done = made.1;
+                let behind = levels::look(src, toks, levels::AND, done);
                 match behind {
                     Behind::Operand(on) => {
-                        let op = now.at;
+                        let op = done.at;
                         before = Before::Operator(op, l);
                         st = on;
                     }
-                    Behind::Nothing => return Parsed::Node(l, now),
+                    Behind::Nothing => return Parsed::Node(l, done),
                     Behind::Missing(on) => return Parsed::Refused(14, on),
                 }
             }
@@ -355,15 +356,15 @@ fn rule_s(src: &[u8], toks: &[u32], tree: &mut [u32], left: u32, s: State) -> Pa
             Parsed::Node(n, after) => {
                 let made = levels::joined(toks, tree, before, n, after);
                 let l = made.0;
-                let now = made.1;
-                let behind = levels::look(src, toks, levels::SUM, now);
+                let done = made.1;
+                let behind = levels::look(src, toks, levels::SUM, done);
                 match behind {
                     Behind::Operand(on) => {
-                        let op = now.at;
+                        let op = done.at;
                         before = Before::Operator(op, l);
                         st = on;
                     }
-                    Behind::Nothing => return Parsed::Node(l, now),
+                    Behind::Nothing => return Parsed::Node(l, done),
                     Behind::Missing(on) => return Parsed::Refused(14, on),
                 }
             }
@@ -394,15 +395,15 @@ fn rule_p(src: &[u8], toks: &[u32], tree: &mut [u32], left: u32, s: State) -> Pa
             Parsed::Node(n, after) => {
                 let made = levels::joined(toks, tree, before, n, after);
                 let l = made.0;
-                let now = made.1;
-                let behind = levels::look(src, toks, levels::PRODUCT, now);
+                let done = made.1;
+                let behind = levels::look(src, toks, levels::PRODUCT, done);
                 match behind {
                     Behind::Operand(on) => {
-                        let op = now.at;
+                        let op = done.at;
                         before = Before::Operator(op, l);
                         st = on;
                     }
-                    Behind::Nothing => return Parsed::Node(l, now),
+                    Behind::Nothing => return Parsed::Node(l, done),
                     Behind::Missing(on) => return Parsed::Refused(14, on),
                 }
             }

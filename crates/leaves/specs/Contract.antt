@@ -55,7 +55,7 @@ a-list n c = list n
 abbrev pub a-growing : Shape
 a-growing n c = growing n (c - 1)
 
--- From the tree tr with n nodes to tr′ with n′: the header's words, and all words behind the n′ nodes, are as they were. Each record below has it.
+-- From the tree tr with n nodes to tr′ with n′: the header's words, and all words behind the n′ nodes, are as they were. Answers and leaves tell it.
 pub record Frame (n : ℕ) (tr : List ℕ) (n′ : ℕ) (tr′ : List ℕ) : Type 0 where
   pub grows : n ≤ n′
   pub header : (w : ℕ) → w < 8 → getD tr′ w 0 ≡ getD tr w 0

@@ -1,4 +1,5 @@
--- The token list of a source (01, Raw tokens, Indentation, and questions 6 to 12). The crates above cite this list, its words and a token's value, and nothing else of the scanner.
+-- The token list of a source (01, Raw tokens, Indentation, and questions 6 to 12). Of the scanner the crates above cite this and its answers, the words
+-- and text of a list, and a token's value.
 -- The state is the code's struct Lexer: `at`, the place reached; `flag`; `top`, the deepest open level; `count`, the tokens so far, which the code needs
 -- and no rule asks; `used`, the text so far, which a String's offset needs.
 -- Assumes nothing.

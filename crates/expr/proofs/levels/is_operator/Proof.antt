@@ -1,4 +1,4 @@
--- `expr::is_operator` meets its contract: an arm for each level.
+-- `expr::levels::is_operator` meets its contract: an arm for each level.
 -- Assumes nothing.
 use borrow.Author.Needs.{needs}
 use Rattle.expr.proofs.Grouping.{last-operators}

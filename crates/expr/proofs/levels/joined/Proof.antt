@@ -1,4 +1,4 @@
--- `expr::joined` meets its contract: by what stands before the operand, nothing, or the leaf of a Binary.
+-- `expr::levels::joined` meets its contract: by what stands before the operand, nothing, or the leaf of a Binary.
 -- Assumes nothing.
 use borrow.Author.Needs.{needs}
 use Rattle.expr.proofs.Standing.{joined-none, joined-one}

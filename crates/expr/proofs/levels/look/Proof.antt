@@ -1,4 +1,4 @@
--- `expr::look` meets its contract: an operator is no Eof, so a token stands behind it.
+-- `expr::levels::look` meets its contract: an operator is no Eof, so a token stands behind it.
 -- Assumes nothing.
 use borrow.Author.Needs.{needs}
 use Rattle.pyhyeon.specs.Tables.{firstU}
