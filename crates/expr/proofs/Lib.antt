@@ -1,3 +1,1 @@
-pub mod Grouping
-pub mod Standing
 pub mod Low

@@ -1,20 +1,14 @@
--- Parts of the rules that a function has for itself. Only contracts cite these: each is a part of a rule's body (specs/Tables.antt of the grammar), or
--- the operators in one.
+-- Parts of the rules that a function has for itself. Only contracts cite these: each is a part of a rule's body (specs/Tables.antt of the grammar).
 -- Assumes nothing.
 use Prim.Native.Nat.{ℕ}
 use mathlib.Core.Bool.{Bool, true, false}
 use mathlib.Core.List.{List, [], _∷_}
 use Rattle.grammar.specs.Grammar.{Part, skip, act, tok, call, _⨾_, _∕_, many, tail}
-use lib.ListN.{getD}
-use Rattle.token.specs.Code.{Or, And, Star, SlashSlash, Slash, Percent, Plus, Minus, LBrace, RBrace, RParen, RBracket, Colon, Comma}
+use Rattle.token.specs.Code.{LBrace, RBrace, RParen, RBracket, Colon, Comma}
 use Rattle.ast.specs.Kind as kind
 use Rattle.pyhyeon.specs.Action.{Action, mark, named, compare, compare-more, compared, list-one, list-done, enclose, group, tuple, pair, apply, index, lambda}
 use Rattle.pyhyeon.specs.Rules as rules
 use Rattle.pyhyeon.specs.Rules.{Rule, E, S, tk, names, more, list, parameters, entry, rest, comparisons}
-
--- the operators of the four levels that group left, O, A, S and P: the levels 0 to 2, and any other
-abbrev pub operators : ℕ → List ℕ
-operators level = getD ((Or ∷ []) ∷ (And ∷ []) ∷ (Plus ∷ Minus ∷ []) ∷ []) level (Star ∷ SlashSlash ∷ Slash ∷ Percent ∷ [])
 
 -- a further comparison; and all of them, after the first operator
 abbrev pub further : Part Action Rule

@@ -22,7 +22,7 @@ pub fn comma_list(src: &[u8], toks: &[u32], tree: &mut [u32], left: u32, s: Stat
     match inner {
         Parsed::Node(n, after) => {
             let at = after.at;
-            if leaves::is_symbol(leaves::symbol_at(src, toks, at), token::COMMA) {
+            if lookahead::is_symbol(lookahead::symbol_at(src, toks, at), token::COMMA) {
                 let t = at.0 + 1;
                 let on = State {
                     at: TokenNumber(t),
@@ -53,7 +53,7 @@ fn comma_rest(
     ensures { λ r. ⌜ Parts (now (src .entry)) (now (toks .entry)) left tOn (node (first .0) ∷ []) a-node s (now (tree .entry)) r (now (tree .exit)) ⌝ }
 {
     let at = s.at;
-    if leaves::begins_e(leaves::symbol_at(src, toks, at)) {
+    if lookahead::begins_e(lookahead::symbol_at(src, toks, at)) {
         let inner = rule_e(src, toks, tree, left, s);
         match inner {
             Parsed::Node(n, after) => {
@@ -61,7 +61,7 @@ fn comma_rest(
                 let more = rest(src, toks, tree, left, false, first, n, after);
                 match more {
                     Parsed::Node(head, done) => {
-                        let made = leaves::put_tuple(toks, tree, head, done);
+                        let made = expr_leaves::put_tuple(toks, tree, head, done);
                         let m = made.0;
                         let end = made.1;
                         Parsed::Node(m, end)

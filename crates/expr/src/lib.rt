@@ -4,7 +4,7 @@
 //
 // The contract of a rule is `Rules`: its answer, and the nodes in the tree, are what the descent of the rule comes to. That of a function that has a
 // part of a rule is `Parts`, with the values that are at hand, which are its parameters; `Lists` for the rest of a list. What the levels of operators
-// share stands in levels.rt, with contracts of its own.
+// share stands in the crate `levels`, with contracts of its own.
 ghost use mathlib.Core.Path.{_≡_};
 ghost use mathlib.Core.Bool.{true, false};
 ghost use mathlib.Core.List.{[], _∷_};
@@ -17,14 +17,13 @@ ghost use Rattle.pyhyeon.specs.Rules.{E, O, C, S, P, U, F, entry, postfix};
 ghost use Rattle.pyhyeon.specs.Rules as rules;
 ghost use Rattle.pyhyeon.specs.Tables.{primary, pairsOn, setOn};
 ghost use Rattle.pyhyeon.specs.Tables as tables;
-ghost use Rattle.leaves.specs.Tokens.{symbolAt};
+ghost use Rattle.lookahead.specs.Tokens.{symbolAt};
 ghost use Rattle.leaves.specs.Contract.{a-node, a-list, Rules, Parts, Lists, Ready, Begun};
 ghost use Rattle.ast.specs.Kind as kind;
 ghost use Rattle.pyhyeon.specs.Action.{empty};
 ghost use Rattle.expr.specs.Parts.{chained, compares, member, others, closes, enclosed, lambdaOn, lambdaBody, teeOn, valued, pairsRest, tupleRest, roundOn, callOn, indexOn};
 
 mod comma;
-mod levels;
 mod parameters;
 
 pub use comma::comma_list;
@@ -48,7 +47,7 @@ pub fn rule_e(src: &[u8], toks: &[u32], tree: &mut [u32], left: u32, s: State) -
     } else {
         let room = left - 1;
         let opened = s.opened + 1;
-        if leaves::is_symbol(leaves::symbol_at(src, toks, at), token::LAMBDA) {
+        if lookahead::is_symbol(lookahead::symbol_at(src, toks, at), token::LAMBDA) {
             let t = at.0 + 1;
             let on = State {
                 at: TokenNumber(t),
@@ -75,7 +74,7 @@ pub fn enter(src: &[u8], toks: &[u32], tree: &mut [u32], left: u32, s: State) ->
     ensures { λ r. ⌜ Parts (now (src .entry)) (now (toks .entry)) left (call E) [] a-node s (now (tree .entry)) r (now (tree .exit)) ⌝ }
 {
     let at = s.at;
-    if leaves::begins_e(leaves::symbol_at(src, toks, at)) {
+    if lookahead::begins_e(lookahead::symbol_at(src, toks, at)) {
         rule_e(src, toks, tree, left, s)
     } else {
         Parsed::Refused(14, s)
@@ -99,7 +98,7 @@ fn lambda(
     let first = heads.0;
     let after = heads.1;
     let colon = after.at;
-    if leaves::is_symbol(leaves::symbol_at(src, toks, colon), token::COLON) {
+    if lookahead::is_symbol(lookahead::symbol_at(src, toks, colon), token::COLON) {
         let t = colon.0 + 1;
         let on = State {
             at: TokenNumber(t),
@@ -130,7 +129,7 @@ fn body(
     let inner = enter(src, toks, tree, left, s);
     match inner {
         Parsed::Node(n, after) => {
-            let made = leaves::put_lambda(toks, tree, opener, first, n, after);
+            let made = expr_leaves::put_lambda(toks, tree, opener, first, n, after);
             let m = made.0;
             let done = made.1;
             Parsed::Node(m, done)
@@ -235,7 +234,7 @@ fn rule_c(src: &[u8], toks: &[u32], tree: &mut [u32], left: u32, s: State) -> Pa
     match inner {
         Parsed::Node(n, after) => {
             let op = after.at;
-            if leaves::is_comparison(leaves::symbol_at(src, toks, op)) {
+            if lookahead::is_comparison(lookahead::symbol_at(src, toks, op)) {
                 let t = op.0 + 1;
                 let on = State {
                     at: TokenNumber(t),
@@ -267,11 +266,11 @@ fn cmp(
     ensures { λ r. ⌜ Parts (now (src .entry)) (now (toks .entry)) left compares (token (op .0) ∷ node (first .0) ∷ []) a-node s (now (tree .entry)) r (now (tree .exit)) ⌝ }
 {
     let at = s.at;
-    if leaves::begins_u(leaves::symbol_at(src, toks, at)) {
+    if lookahead::begins_u(lookahead::symbol_at(src, toks, at)) {
         let right = rule_s(src, toks, tree, left, s);
         match right {
             Parsed::Node(n, after) => {
-                let made = leaves::put_binary(toks, tree, op, first, n, after);
+                let made = expr_leaves::put_binary(toks, tree, op, first, n, after);
                 let m = made.0;
                 let done = made.1;
                 cmps(src, toks, tree, left, m, n, done)
@@ -302,7 +301,7 @@ fn cmps(
     let mut st = s;
     loop {
         let op = st.at;
-        if leaves::is_comparison(leaves::symbol_at(src, toks, op)) {
+        if lookahead::is_comparison(lookahead::symbol_at(src, toks, op)) {
             let t = op.0 + 1;
             let next = TokenNumber(t);
             let on = State {
@@ -311,14 +310,14 @@ fn cmps(
                 opened: st.opened,
                 used: st.used,
             };
-            if leaves::begins_u(leaves::symbol_at(src, toks, next)) {
+            if lookahead::begins_u(lookahead::symbol_at(src, toks, next)) {
                 let right = rule_s(src, toks, tree, left, on);
                 match right {
                     Parsed::Node(r, after) => {
-                        let made = leaves::put_binary(toks, tree, op, x, r, after);
+                        let made = expr_leaves::put_binary(toks, tree, op, x, r, after);
                         let m = made.0;
                         let up = made.1;
-                        let joined = leaves::put_and(toks, tree, l, m, up);
+                        let joined = expr_leaves::put_and(toks, tree, l, m, up);
                         l = joined.0;
                         x = r;
                         st = joined.1;
@@ -420,18 +419,18 @@ fn rule_u(src: &[u8], toks: &[u32], tree: &mut [u32], left: u32, s: State) -> Pa
 {
     let first = s.at;
     let opened = s.opened + 1;
-    let end = leaves::skip_signs(src, toks, first);
+    let end = lookahead::skip_signs(src, toks, first);
     let on = State {
         at: end,
         nodes: s.nodes,
         opened: opened,
         used: s.used,
     };
-    if leaves::begins_f(leaves::symbol_at(src, toks, end)) {
+    if lookahead::begins_f(lookahead::symbol_at(src, toks, end)) {
         let inner = rule_f(src, toks, tree, left, on);
         match inner {
             Parsed::Node(n, after) => {
-                let made = leaves::wrap(toks, tree, first, end, n, after);
+                let made = expr_leaves::wrap(toks, tree, first, end, n, after);
                 let m = made.0;
                 let done = made.1;
                 Parsed::Node(m, done)
@@ -478,19 +477,19 @@ fn head(src: &[u8], toks: &[u32], tree: &mut [u32], left: u32, s: State) -> Pars
         opened: s.opened,
         used: s.used,
     };
-    match leaves::symbol_at(src, toks, at) {
+    match lookahead::symbol_at(src, toks, at) {
         token::LBRACKET => shown(src, toks, tree, left, at, token::RBRACKET, ast::LIST, on),
-        leaves::TEE => tee(src, toks, tree, left, at, on),
+        lookahead::TEE => tee(src, toks, tree, left, at, on),
         token::LBRACE => braces(src, toks, tree, left, at, on),
         token::LPAREN => round(src, toks, tree, left, at, on),
         token::IDENTIFIER => {
-            let made = leaves::put_named(toks, tree, ast::VARIABLE, on);
+            let made = expr_leaves::put_named(toks, tree, ast::VARIABLE, on);
             let n = made.0;
             let after = made.1;
             Parsed::Node(n, after)
         }
         _ => {
-            let made = leaves::put_literal(src, toks, tree, on);
+            let made = expr_leaves::put_literal(src, toks, tree, on);
             let n = made.0;
             let after = made.1;
             Parsed::Node(n, after)
@@ -512,7 +511,7 @@ fn tee(
     ensures { λ r. ⌜ Parts (now (src .entry)) (now (toks .entry)) left teeOn [] a-node s (now (tree .entry)) r (now (tree .exit)) ⌝ }
 {
     let at = s.at;
-    if leaves::is_symbol(leaves::symbol_at(src, toks, at), token::LBRACE) {
+    if lookahead::is_symbol(lookahead::symbol_at(src, toks, at), token::LBRACE) {
         let t = at.0 + 1;
         let on = State {
             at: TokenNumber(t),
@@ -531,7 +530,7 @@ fn tee(
             on,
         )
     } else {
-        let made = leaves::put_named(toks, tree, ast::VARIABLE, s);
+        let made = expr_leaves::put_named(toks, tree, ast::VARIABLE, s);
         let n = made.0;
         let after = made.1;
         Parsed::Node(n, after)
@@ -587,7 +586,7 @@ fn shut(
     ensures { λ r. ⌜ Parts (now (src .entry)) (now (toks .entry)) left (closes close kind) (list (first .0) ∷ token (opener .0) ∷ []) a-node s (now (tree .entry)) r (now (tree .exit)) ⌝ }
 {
     let at = s.at;
-    if leaves::is_symbol(leaves::symbol_at(src, toks, at), close) {
+    if lookahead::is_symbol(lookahead::symbol_at(src, toks, at), close) {
         let t = at.0 + 1;
         let on = State {
             at: TokenNumber(t),
@@ -595,7 +594,7 @@ fn shut(
             opened: s.opened,
             used: s.used,
         };
-        let made = leaves::put_enclosed(toks, tree, kind, opener, first, on);
+        let made = expr_leaves::put_enclosed(toks, tree, kind, opener, first, on);
         let n = made.0;
         let after = made.1;
         Parsed::Node(n, after)
@@ -610,7 +609,7 @@ fn items(src: &[u8], toks: &[u32], tree: &mut [u32], left: u32, s: State) -> Par
     ensures { λ r. ⌜ Parts (now (src .entry)) (now (toks .entry)) left rules.list [] a-list s (now (tree .entry)) r (now (tree .exit)) ⌝ }
 {
     let at = s.at;
-    if leaves::begins_e(leaves::symbol_at(src, toks, at)) {
+    if lookahead::begins_e(lookahead::symbol_at(src, toks, at)) {
         let inner = rule_e(src, toks, tree, left, s);
         match inner {
             Parsed::Node(n, after) => {
@@ -646,7 +645,7 @@ fn rest(
     let mut st = s;
     loop {
         let at = st.at;
-        if leaves::is_symbol(leaves::symbol_at(src, toks, at), token::COMMA) {
+        if lookahead::is_symbol(lookahead::symbol_at(src, toks, at), token::COMMA) {
             let t = at.0 + 1;
             let next = TokenNumber(t);
             let on = State {
@@ -655,7 +654,7 @@ fn rest(
                 opened: st.opened,
                 used: st.used,
             };
-            if leaves::begins_e(leaves::symbol_at(src, toks, next)) {
+            if lookahead::begins_e(lookahead::symbol_at(src, toks, next)) {
                 let inner = member(src, toks, tree, left, paired, on);
                 match inner {
                     Parsed::Node(n, after) => {
@@ -688,7 +687,7 @@ fn braces(
     ensures { λ r. ⌜ Parts (now (src .entry)) (now (toks .entry)) left tables.braces (token (opener .0) ∷ []) a-node s (now (tree .entry)) r (now (tree .exit)) ⌝ }
 {
     let at = s.at;
-    if leaves::is_symbol(leaves::symbol_at(src, toks, at), token::RBRACE) {
+    if lookahead::is_symbol(lookahead::symbol_at(src, toks, at), token::RBRACE) {
         let t = at.0 + 1;
         let on = State {
             at: TokenNumber(t),
@@ -696,7 +695,7 @@ fn braces(
             opened: s.opened,
             used: s.used,
         };
-        let made = leaves::put_empty(toks, tree, ast::DICT, opener, on);
+        let made = expr_leaves::put_empty(toks, tree, ast::DICT, opener, on);
         let n = made.0;
         let after = made.1;
         Parsed::Node(n, after)
@@ -724,7 +723,7 @@ fn brace(
     ensures { λ r. ⌜ Parts (now (src .entry)) (now (toks .entry)) left (pairsOn ∕ setOn) (node (first .0) ∷ token (opener .0) ∷ []) a-node s (now (tree .entry)) r (now (tree .exit)) ⌝ }
 {
     let at = s.at;
-    if leaves::is_symbol(leaves::symbol_at(src, toks, at), token::COLON) {
+    if lookahead::is_symbol(lookahead::symbol_at(src, toks, at), token::COLON) {
         let t = at.0 + 1;
         let on = State {
             at: TokenNumber(t),
@@ -814,7 +813,7 @@ fn value(src: &[u8], toks: &[u32], tree: &mut [u32], left: u32, key: NodeNumber,
     let inner = enter(src, toks, tree, left, s);
     match inner {
         Parsed::Node(n, after) => {
-            let made = leaves::put_pair(toks, tree, key, n, after);
+            let made = expr_leaves::put_pair(toks, tree, key, n, after);
             let m = made.0;
             let done = made.1;
             Parsed::Node(m, done)
@@ -833,7 +832,7 @@ fn item(src: &[u8], toks: &[u32], tree: &mut [u32], left: u32, s: State) -> Pars
     match inner {
         Parsed::Node(key, after) => {
             let colon = after.at;
-            if leaves::is_symbol(leaves::symbol_at(src, toks, colon), token::COLON) {
+            if lookahead::is_symbol(lookahead::symbol_at(src, toks, colon), token::COLON) {
                 let t = colon.0 + 1;
                 let on = State {
                     at: TokenNumber(t),
@@ -877,13 +876,13 @@ fn round(
     ensures { λ r. ⌜ Parts (now (src .entry)) (now (toks .entry)) left tables.round (token (opener .0) ∷ []) a-node s (now (tree .entry)) r (now (tree .exit)) ⌝ }
 {
     let at = s.at;
-    if leaves::begins_e(leaves::symbol_at(src, toks, at)) {
+    if lookahead::begins_e(lookahead::symbol_at(src, toks, at)) {
         let inner = rule_e(src, toks, tree, left, s);
         match inner {
             Parsed::Node(n, after) => paren(src, toks, tree, left, opener, n, after),
             Parsed::Refused(code, after) => Parsed::Refused(code, after),
         }
-    } else if leaves::is_symbol(leaves::symbol_at(src, toks, at), token::RPAREN) {
+    } else if lookahead::is_symbol(lookahead::symbol_at(src, toks, at), token::RPAREN) {
         let t = at.0 + 1;
         let on = State {
             at: TokenNumber(t),
@@ -911,7 +910,7 @@ fn unit(
     ensures { λ r. ⌜ Parts (now (src .entry)) (now (toks .entry)) left (rules.tk RParen ⨾ act (empty kind.Tuple)) (token (opener .0) ∷ []) a-node s (now (tree .entry)) r (now (tree .exit)) ⌝ }
 {
     let at = s.at;
-    if leaves::is_symbol(leaves::symbol_at(src, toks, at), token::RPAREN) {
+    if lookahead::is_symbol(lookahead::symbol_at(src, toks, at), token::RPAREN) {
         let t = at.0 + 1;
         let on = State {
             at: TokenNumber(t),
@@ -919,7 +918,7 @@ fn unit(
             opened: s.opened,
             used: s.used,
         };
-        let made = leaves::put_empty(toks, tree, ast::TUPLE, opener, on);
+        let made = expr_leaves::put_empty(toks, tree, ast::TUPLE, opener, on);
         let n = made.0;
         let after = made.1;
         Parsed::Node(n, after)
@@ -943,8 +942,8 @@ fn paren(
     ensures { λ r. ⌜ Parts (now (src .entry)) (now (toks .entry)) left roundOn (node (first .0) ∷ token (opener .0) ∷ []) a-node s (now (tree .entry)) r (now (tree .exit)) ⌝ }
 {
     let at = s.at;
-    let symbol = leaves::symbol_at(src, toks, at);
-    if leaves::is_symbol(symbol, token::RPAREN) {
+    let symbol = lookahead::symbol_at(src, toks, at);
+    if lookahead::is_symbol(symbol, token::RPAREN) {
         let t = at.0 + 1;
         let on = State {
             at: TokenNumber(t),
@@ -954,7 +953,7 @@ fn paren(
         };
         leaves::widen(toks, tree, opener, first, on);
         Parsed::Node(first, on)
-    } else if leaves::is_symbol(symbol, token::COMMA) {
+    } else if lookahead::is_symbol(symbol, token::COMMA) {
         let t = at.0 + 1;
         let on = State {
             at: TokenNumber(t),
@@ -983,7 +982,7 @@ fn tuple(
     ensures { λ r. ⌜ Parts (now (src .entry)) (now (toks .entry)) left tupleRest (node (first .0) ∷ token (opener .0) ∷ []) a-node s (now (tree .entry)) r (now (tree .exit)) ⌝ }
 {
     let at = s.at;
-    if leaves::begins_e(leaves::symbol_at(src, toks, at)) {
+    if lookahead::begins_e(lookahead::symbol_at(src, toks, at)) {
         let inner = rule_e(src, toks, tree, left, s);
         match inner {
             Parsed::Node(n, after) => {
@@ -1038,7 +1037,7 @@ fn posts(
     let mut st = s;
     loop {
         let at = st.at;
-        if leaves::begins_postfix(leaves::symbol_at(src, toks, at)) {
+        if lookahead::begins_postfix(lookahead::symbol_at(src, toks, at)) {
             let more = post(src, toks, tree, left, n, st);
             match more {
                 Parsed::Node(m, after) => {
@@ -1068,9 +1067,9 @@ fn post(src: &[u8], toks: &[u32], tree: &mut [u32], left: u32, n: NodeNumber, s:
         opened: s.opened,
         used: s.used,
     };
-    match leaves::symbol_at(src, toks, at) {
+    match lookahead::symbol_at(src, toks, at) {
         token::DOT => {
-            if leaves::is_name(leaves::symbol_at(src, toks, next)) {
+            if lookahead::is_name(lookahead::symbol_at(src, toks, next)) {
                 let u = t + 1;
                 let past = State {
                     at: TokenNumber(u),
@@ -1078,7 +1077,7 @@ fn post(src: &[u8], toks: &[u32], tree: &mut [u32], left: u32, n: NodeNumber, s:
                     opened: s.opened,
                     used: s.used,
                 };
-                let made = leaves::put_attribute(toks, tree, n, past);
+                let made = expr_leaves::put_attribute(toks, tree, n, past);
                 let m = made.0;
                 let after = made.1;
                 Parsed::Node(m, after)
@@ -1101,7 +1100,7 @@ fn args(src: &[u8], toks: &[u32], tree: &mut [u32], left: u32, n: NodeNumber, s:
     match inner {
         Parsed::Node(first, after) => {
             let close = after.at;
-            if leaves::is_symbol(leaves::symbol_at(src, toks, close), token::RPAREN) {
+            if lookahead::is_symbol(lookahead::symbol_at(src, toks, close), token::RPAREN) {
                 let t = close.0 + 1;
                 let on = State {
                     at: TokenNumber(t),
@@ -1109,7 +1108,7 @@ fn args(src: &[u8], toks: &[u32], tree: &mut [u32], left: u32, n: NodeNumber, s:
                     opened: after.opened,
                     used: after.used,
                 };
-                let made = leaves::put_apply(toks, tree, n, first, on);
+                let made = expr_leaves::put_apply(toks, tree, n, first, on);
                 let m = made.0;
                 let done = made.1;
                 Parsed::Node(m, done)
@@ -1131,7 +1130,7 @@ fn index(src: &[u8], toks: &[u32], tree: &mut [u32], left: u32, n: NodeNumber, s
     match inner {
         Parsed::Node(i, after) => {
             let close = after.at;
-            if leaves::is_symbol(leaves::symbol_at(src, toks, close), token::RBRACKET) {
+            if lookahead::is_symbol(lookahead::symbol_at(src, toks, close), token::RBRACKET) {
                 let t = close.0 + 1;
                 let on = State {
                     at: TokenNumber(t),
@@ -1139,7 +1138,7 @@ fn index(src: &[u8], toks: &[u32], tree: &mut [u32], left: u32, n: NodeNumber, s
                     opened: after.opened,
                     used: after.used,
                 };
-                let made = leaves::put_index(toks, tree, n, i, on);
+                let made = expr_leaves::put_index(toks, tree, n, i, on);
                 let m = made.0;
                 let done = made.1;
                 Parsed::Node(m, done)

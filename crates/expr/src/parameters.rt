@@ -20,7 +20,7 @@ pub fn names(src: &[u8], toks: &[u32], tree: &mut [u32], s: State) -> Added
     ensures { λ r. ⌜ ((room : ℕ) → Parts (now (src .entry)) (now (toks .entry)) room parameters [] a-list s (now (tree .entry)) (parsed.Node (r .0) (r .1)) (now (tree .exit))) ⌝ }
 {
     let at = s.at;
-    if leaves::is_name(leaves::symbol_at(src, toks, at)) {
+    if lookahead::is_name(lookahead::symbol_at(src, toks, at)) {
         let t = at.0 + 1;
         let on = State {
             at: TokenNumber(t),
@@ -28,7 +28,7 @@ pub fn names(src: &[u8], toks: &[u32], tree: &mut [u32], s: State) -> Added
             opened: s.opened,
             used: s.used,
         };
-        let made = leaves::put_named(toks, tree, ast::NAME, on);
+        let made = expr_leaves::put_named(toks, tree, ast::NAME, on);
         let first = made.0;
         let after = made.1;
         names_rest(src, toks, tree, first, after)
@@ -47,10 +47,10 @@ fn names_rest(src: &[u8], toks: &[u32], tree: &mut [u32], first: NodeNumber, s: 
     let mut st = s;
     loop {
         let at = st.at;
-        if leaves::is_symbol(leaves::symbol_at(src, toks, at), token::COMMA) {
+        if lookahead::is_symbol(lookahead::symbol_at(src, toks, at), token::COMMA) {
             let t = at.0 + 1;
             let next = TokenNumber(t);
-            if leaves::is_name(leaves::symbol_at(src, toks, next)) {
+            if lookahead::is_name(lookahead::symbol_at(src, toks, next)) {
                 let u = t + 1;
                 let on = State {
                     at: TokenNumber(u),
@@ -58,7 +58,7 @@ fn names_rest(src: &[u8], toks: &[u32], tree: &mut [u32], first: NodeNumber, s: 
                     opened: st.opened,
                     used: st.used,
                 };
-                let made = leaves::put_named(toks, tree, ast::NAME, on);
+                let made = expr_leaves::put_named(toks, tree, ast::NAME, on);
                 let n = made.0;
                 let after = made.1;
                 leaves::link(tree, last, n, after);

@@ -7,7 +7,7 @@ use libc::STDOUT_FILENO;
 use token::TokenNumber;
 ghost use Prim.Native.Nat.{_≤_};
 ghost use lib.ListN.{length};
-ghost use Rattle.leaves.specs.Tokens.{Tokens};
+ghost use Rattle.lookahead.specs.Tokens.{Tokens};
 
 // The longest source: its areas have 3,072 words of tokens, 1,023 bytes of text and 16,384 words of tree.
 const LONGEST: usize = 1023;

@@ -22,7 +22,7 @@ use Rattle.pyhyeon.proofs.Held.{Fit, Held}
 use Rattle.leaves.specs.declared.State.{State}
 use Rattle.leaves.specs.declared.Parsed.{Parsed}
 use Rattle.leaves.specs.declared.Parsed.the-variants.{Node}
-use Rattle.leaves.specs.Tokens.{eofAt, textBefore, Tokens}
+use Rattle.lookahead.specs.Tokens.{eofAt, textBefore, Tokens}
 use Rattle.leaves.specs.Contract.{Shape, a-node, a-list, Rules, Parts}
 use Rattle.joint.proofs.Counts.{Counted, Pays, pays, Taking, Modest, Passed, passed-node, passed-part, passed-start, counted-rule, counted-call, counted-part}
 

@@ -27,10 +27,10 @@ use Rattle.pyhyeon.proofs.Language.{language}
 use Rattle.leaves.specs.declared.State.{State}
 use Rattle.leaves.specs.declared.Parsed.{Parsed}
 use Rattle.leaves.specs.declared.Parsed.the-variants.{Node, Refused}
-use Rattle.leaves.specs.Tokens.{eofAt, textBefore, tokensOf, symbolAt}
+use Rattle.lookahead.specs.Tokens.{eofAt, textBefore, tokensOf, symbolAt}
 use Rattle.leaves.specs.Contract.{past, raised, kept, state, Shape, a-node, Frame, Told, told-node, told-no, told-deep, Rules, Comes, Parts}
 use Rattle.leaves.proofs.Frames.{frame-none, frame-then}
-use Rattle.leaves.proofs.Tokens.{symbols-length, symbols-at, sees-at}
+use Rattle.lookahead.proofs.Tokens.{symbols-length, symbols-at, sees-at}
 
 -- the tables pass their test
 pub good : (r : Rule) → Sound pyhyeon r

@@ -31,9 +31,9 @@ use Rattle.pyhyeon.proofs.Limits.{frugal}
 use Rattle.leaves.specs.declared.State.{State}
 use Rattle.leaves.specs.declared.Parsed.{Parsed}
 use Rattle.leaves.specs.declared.Parsed.the-variants.{Node}
-use Rattle.leaves.specs.Tokens.{eofAt, textBefore, tokensOf, symbolAt, Tokens}
+use Rattle.lookahead.specs.Tokens.{eofAt, textBefore, tokensOf, symbolAt, Tokens}
 use Rattle.leaves.specs.Contract.{state, Shape, a-node, a-growing, Told, Rules, Parts}
-use Rattle.leaves.proofs.Tokens.{sees-at, before-eof}
+use Rattle.lookahead.proofs.Tokens.{sees-at, before-eof}
 use Rattle.joint.proofs.Chain.{is-node, is-used}
 
 -- From a rule or a part at s to the value of the node n and the state s′: it takes at least `some` tokens, opens at most `high` rules on the first,

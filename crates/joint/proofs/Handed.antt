@@ -15,7 +15,7 @@ use Rattle.lexer.specs.declared.Scanned.{Scanned}
 use Rattle.lexer.specs.declared.Scanned.the-variants as S
 use Rattle.lexer.proofs.Writing.{length-words}
 use Rattle.lexer.proofs.Laws.{tokens-few, text-few, tokens-end}
-use Rattle.leaves.specs.Tokens.{eofAt, Tokens}
+use Rattle.lookahead.specs.Tokens.{eofAt, Tokens}
 use Rattle.joint.proofs.Promised.{promised}
 
 -- what is handed on: the words of the token list ts, which stand for its tokens, no more of them before Eof than bytes

@@ -13,7 +13,7 @@ use Rattle.pyhyeon.specs.Rules.{Rule}
 use Rattle.leaves.specs.declared.State.{State}
 use Rattle.leaves.specs.declared.Parsed.{Parsed}
 use Rattle.leaves.specs.declared.Parsed.the-variants.{Node, Refused}
-use Rattle.leaves.specs.Tokens.{eofAt, textBefore, Tokens}
+use Rattle.lookahead.specs.Tokens.{eofAt, textBefore, Tokens}
 use Rattle.leaves.specs.Contract.{Shape, a-node, Comes, Ready, Led, Lists}
 
 -- what code needs at a state, of the numbers that are left to show

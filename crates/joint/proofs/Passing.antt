@@ -17,11 +17,11 @@ use Rattle.pyhyeon.specs.Rules.{Rule, newlines}
 use Rattle.pyhyeon.specs.Tables.{pyhyeon}
 use Rattle.leaves.specs.declared.State.{State}
 use Rattle.leaves.specs.declared.Parsed.{Parsed}
-use Rattle.leaves.specs.Tokens.{eofAt, textBefore, Tokens}
+use Rattle.lookahead.specs.Tokens.{eofAt, textBefore, Tokens}
 use Rattle.leaves.specs.Contract.{Shape, Comes}
-use Rattle.leaves.specs.Put.{Run, signSet}
+use Rattle.lookahead.specs.Run.{Run, signSet}
 use Rattle.leaves.proofs.Frames.{frame-none}
-use Rattle.leaves.proofs.Tokens.{took}
+use Rattle.lookahead.proofs.Tokens.{took}
 use Rattle.joint.proofs.Chain.{tok-then, act-then, many-on, many-end}
 
 abbrev pub sign : Part Action Rule

@@ -22,7 +22,7 @@ use Rattle.lexer.proofs.Laws.{tokens-few, text-few, tokens-spanned, tokens-end,
 use Rattle.ast.specs.Words.{tabulate}
 use Rattle.grammar.specs.Limits.{before}
 use Rattle.pyhyeon.specs.Symbol.{Tee, isTee, symbol, symbols}
-use Rattle.leaves.specs.Tokens.{codeAt, startAt, endAt, eofAt, textBefore, tokenOf, tokensOf, Span, Tokens}
+use Rattle.lookahead.specs.Tokens.{codeAt, startAt, endAt, eofAt, textBefore, tokenOf, tokensOf, Span, Tokens}
 
 -- ---- reading words by number
 

@@ -16,10 +16,10 @@ use Rattle.pyhyeon.specs.Tables.{first, pyhyeon}
 use Rattle.leaves.specs.declared.State.{State}
 use Rattle.leaves.specs.declared.Parsed.{Parsed}
 use Rattle.leaves.specs.declared.Parsed.the-variants.{Node, Refused}
-use Rattle.leaves.specs.Tokens.{eofAt, textBefore, tokensOf, symbolAt}
+use Rattle.lookahead.specs.Tokens.{eofAt, textBefore, tokensOf, symbolAt}
 use Rattle.leaves.specs.Contract.{past, state, Shape, told-no, Comes}
 use Rattle.leaves.proofs.Frames.{frame-none}
-use Rattle.leaves.proofs.Tokens.{sees-at}
+use Rattle.lookahead.proofs.Tokens.{sees-at}
 use Rattle.joint.proofs.Chain.{tok-then, tok-not, skip-end}
 
 then-skip : (src toks : List ℕ) (room : ℕ) (x : Answer (machine src (tokensOf src toks))) → thenD x (walk first (descend pyhyeon room) skip) ≡ x

@@ -18,7 +18,7 @@ use Rattle.pyhyeon.specs.Machine.{Value, node, growing, list, Kept, write}
 use Rattle.pyhyeon.specs.Action.{Action, literal, unaryNode, wrap, binaryOf, perform, machine}
 use Rattle.pyhyeon.specs.Rules.{Rule}
 use Rattle.pyhyeon.specs.Tables.{first, pyhyeon}
-use Rattle.leaves.specs.Tokens.{eofAt, textBefore, tokensOf, symbolAt, Tokens}
+use Rattle.lookahead.specs.Tokens.{eofAt, textBefore, tokensOf, symbolAt, Tokens}
 use Rattle.leaves.specs.declared.State.{State}
 use Rattle.leaves.specs.declared.Added.{Added}
 use Rattle.leaves.specs.declared.Parsed.{Parsed}

@@ -1,3 +1,2 @@
-pub mod Tokens
 pub mod Contract
 pub mod Put

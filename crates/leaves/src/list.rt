@@ -6,8 +6,8 @@ ghost use Rattle.pyhyeon.specs.Machine.{token, node, growing};
 ghost use Rattle.pyhyeon.specs.Action.{list-join, group};
 ghost use Rattle.leaves.specs.Contract.{Spot, Changes};
 use crate::State;
-use crate::read::end_at;
-use crate::read::start_at;
+use lookahead::end_at;
+use lookahead::start_at;
 use token::NodeNumber;
 use token::TokenNumber;
 

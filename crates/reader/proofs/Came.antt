@@ -25,9 +25,9 @@ use Rattle.pyhyeon.proofs.Limits.{frugal}
 use Rattle.leaves.specs.declared.State.{State}
 use Rattle.leaves.specs.declared.Parsed.{Parsed}
 use Rattle.leaves.specs.declared.Parsed.the-variants.{Node, Refused}
-use Rattle.leaves.specs.Tokens.{startAt, eofAt, tokensOf, Tokens}
+use Rattle.lookahead.specs.Tokens.{startAt, eofAt, tokensOf, Tokens}
 use Rattle.leaves.specs.Contract.{a-node, state, Told, told-node, told-no, told-deep, Rules}
-use Rattle.leaves.proofs.Tokens.{token-is}
+use Rattle.lookahead.proofs.Tokens.{token-is}
 use Rattle.joint.proofs.Promised.{tokens-same}
 use Rattle.joint.proofs.Handed.{Handed}
 

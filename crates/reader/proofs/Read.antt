@@ -20,7 +20,7 @@ use Rattle.pyhyeon.proofs.Limits.{limits}
 use Rattle.leaves.specs.declared.State.{State}
 use Rattle.leaves.specs.declared.Parsed.{Parsed}
 use Rattle.leaves.specs.declared.Parsed.the-variants as P
-use Rattle.leaves.specs.Tokens.{startAt}
+use Rattle.lookahead.specs.Tokens.{startAt}
 use Rattle.joint.proofs.Handed.{Handed, handed-front}
 use Rattle.reader.specs.Outcome.{Outcome, treeArea, header, ofDescent, ofScan}
 use Rattle.reader.specs.Steps.{Exact, padded, Held, Counted, Fills}

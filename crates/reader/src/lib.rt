@@ -122,7 +122,7 @@ fn read_tokens(
             tree,
         ),
         Parsed::Refused(number, s) => {
-            let place = leaves::start_at(&tokens[..end], s.at);
+            let place = lookahead::start_at(&tokens[..end], s.at);
             clear(tokens, text, tree);
             Answer::Stopped {
                 number,

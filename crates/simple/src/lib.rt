@@ -8,7 +8,7 @@ ghost use Rattle.pyhyeon.specs.Action.{alone};
 ghost use Rattle.pyhyeon.specs.Machine.{token, node, growing};
 ghost use Rattle.pyhyeon.specs.Rules.{Simple};
 ghost use Rattle.pyhyeon.specs.Rules as rules;
-ghost use Rattle.leaves.specs.Tokens.{eofAt, textBefore, Tokens};
+ghost use Rattle.lookahead.specs.Tokens.{eofAt, textBefore, Tokens};
 ghost use Rattle.leaves.specs.Contract.{a-node, a-growing, Rules, Parts, Ready, Begun, Spot};
 ghost use Rattle.simple.specs.Parts.{Newest, returnOn, targetOn, valueOn, simplesOn, lineEnd};
 use leaves::Parsed;
@@ -32,7 +32,7 @@ pub fn rule_simple(src: &[u8], toks: &[u32], tree: &mut [u32], left: u32, s: Sta
         opened: opened,
         used: s.used,
     };
-    match leaves::symbol_at(src, toks, at) {
+    match lookahead::symbol_at(src, toks, at) {
         token::RETURN => returned(src, toks, tree, left, at, on),
         token::BREAK => word(toks, tree, ast::BREAK, on),
         token::CONTINUE => word(toks, tree, ast::CONTINUE, on),
@@ -97,7 +97,7 @@ fn assignment(src: &[u8], toks: &[u32], tree: &mut [u32], left: u32, s: State) -
     match inner {
         Parsed::Node(n, after) => {
             let at = after.at;
-            if leaves::is_symbol(leaves::symbol_at(src, toks, at), token::EQUAL) {
+            if lookahead::is_symbol(lookahead::symbol_at(src, toks, at), token::EQUAL) {
                 let t = at.0 + 1;
                 let on = State {
                     at: TokenNumber(t),
@@ -149,7 +149,7 @@ pub fn simples(src: &[u8], toks: &[u32], tree: &mut [u32], left: u32, s: State) 
     ensures { λ r. ⌜ Parts (now (src .entry)) (now (toks .entry)) left rules.simples [] a-growing s (now (tree .entry)) r (now (tree .exit)) ⌝ }
 {
     let at = s.at;
-    if stmt_leaves::begins_simple(leaves::symbol_at(src, toks, at)) {
+    if lookahead::begins_simple(lookahead::symbol_at(src, toks, at)) {
         let inner = rule_simple(src, toks, tree, left, s);
         match inner {
             Parsed::Node(n, after) => simples_rest(src, toks, tree, left, n, after),
@@ -177,7 +177,7 @@ fn simples_rest(
     let mut st = s;
     loop {
         let at = st.at;
-        if leaves::is_symbol(leaves::symbol_at(src, toks, at), token::SEMICOLON) {
+        if lookahead::is_symbol(lookahead::symbol_at(src, toks, at), token::SEMICOLON) {
             let t = at.0 + 1;
             let next = TokenNumber(t);
             let on = State {
@@ -186,7 +186,7 @@ fn simples_rest(
                 opened: st.opened,
                 used: st.used,
             };
-            if stmt_leaves::begins_simple(leaves::symbol_at(src, toks, next)) {
+            if lookahead::begins_simple(lookahead::symbol_at(src, toks, next)) {
                 let inner = rule_simple(src, toks, tree, left, on);
                 match inner {
                     Parsed::Node(n, after) => {
@@ -212,7 +212,7 @@ fn line_end(src: &[u8], toks: &[u32], first: NodeNumber, s: State) -> Parsed
     ensures { λ r. ⌜ ((room : ℕ) (tr : List ℕ) → Parts (now (src .entry)) (now (toks .entry)) room lineEnd (growing (first .0) (s .nodes - 1) ∷ []) a-growing s tr r tr) ⌝ }
 {
     let at = s.at;
-    match leaves::symbol_at(src, toks, at) {
+    match lookahead::symbol_at(src, toks, at) {
         token::NEWLINE => {
             let t = at.0 + 1;
             let on = State {

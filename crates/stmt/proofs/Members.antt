@@ -15,9 +15,9 @@ use Rattle.pyhyeon.specs.Rules.{Rule}
 use Rattle.leaves.specs.declared.State.{State}
 use Rattle.leaves.specs.declared.Parsed.{Parsed}
 use Rattle.leaves.specs.declared.Parsed.the-variants.{Node, Refused}
-use Rattle.leaves.specs.Tokens.{eofAt, symbolAt, Tokens}
+use Rattle.lookahead.specs.Tokens.{eofAt, symbolAt, Tokens}
 use Rattle.leaves.specs.Contract.{Shape, a-node, a-list, Comes, Parts, Lists}
-use Rattle.leaves.proofs.Tokens.{before-eof}
+use Rattle.lookahead.proofs.Tokens.{before-eof}
 use Rattle.joint.proofs.Chain.{flat, flat-then, flat-stop, part-then, part-stop, many-on, many-end}
 use Rattle.joint.proofs.Counts.{Came, came-start}
 use Rattle.joint.proofs.Ends.{list-last}

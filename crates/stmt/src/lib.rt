@@ -16,7 +16,7 @@ ghost use Rattle.pyhyeon.specs.Machine.{token, node, growing, list};
 ghost use Rattle.pyhyeon.specs.Rules.{Line, Block, Class, tk};
 ghost use Rattle.pyhyeon.specs.Rules as rules;
 ghost use Rattle.pyhyeon.specs.Tables.{linesOn};
-ghost use Rattle.leaves.specs.Tokens.{eofAt, textBefore, symbolAt, Tokens};
+ghost use Rattle.lookahead.specs.Tokens.{eofAt, textBefore, symbolAt, Tokens};
 ghost use Rattle.leaves.specs.Contract.{a-node, a-list, a-growing, Rules, Parts, Lists, Ready, Begun};
 ghost use Rattle.simple.specs.Parts.{Newest};
 ghost use Rattle.stmt.specs.Guards.{Guards};
@@ -60,7 +60,7 @@ fn rule_line(src: &[u8], toks: &[u32], tree: &mut [u32], left: u32, s: State) ->
         opened: opened,
         used: s.used,
     };
-    match leaves::symbol_at(src, toks, at) {
+    match lookahead::symbol_at(src, toks, at) {
         token::CLASS => rule_class(src, toks, tree, left, up),
         token::DEF => named(src, toks, tree, left, ast::DEF, at, on),
         token::IF => cond(src, toks, tree, left, at, on),
@@ -89,9 +89,9 @@ fn rule_block(src: &[u8], toks: &[u32], tree: &mut [u32], left: u32, s: State) -
             opened: opened,
             used: s.used,
         };
-        if leaves::is_symbol(leaves::symbol_at(src, toks, next), token::NEWLINE) {
+        if lookahead::is_symbol(lookahead::symbol_at(src, toks, next), token::NEWLINE) {
             let u = t + 1;
-            let line = stmt_leaves::skip_newlines(src, toks, TokenNumber(u));
+            let line = lookahead::skip_newlines(src, toks, TokenNumber(u));
             let below = State {
                 at: line,
                 nodes: s.nodes,
@@ -111,7 +111,7 @@ fn block(src: &[u8], toks: &[u32], tree: &mut [u32], left: u32, s: State) -> Par
     ensures { λ r. ⌜ Parts (now (src .entry)) (now (toks .entry)) left (call Block) [] a-list s (now (tree .entry)) r (now (tree .exit)) ⌝ }
 {
     let at = s.at;
-    if leaves::is_symbol(leaves::symbol_at(src, toks, at), token::COLON) {
+    if lookahead::is_symbol(lookahead::symbol_at(src, toks, at), token::COLON) {
         rule_block(src, toks, tree, left, s)
     } else {
         Parsed::Refused(14, s)
@@ -124,7 +124,7 @@ fn indented(src: &[u8], toks: &[u32], tree: &mut [u32], left: u32, s: State) -> 
     ensures { λ r. ⌜ Parts (now (src .entry)) (now (toks .entry)) left indentedOn [] a-list s (now (tree .entry)) r (now (tree .exit)) ⌝ }
 {
     let at = s.at;
-    if leaves::is_symbol(leaves::symbol_at(src, toks, at), token::INDENT) {
+    if lookahead::is_symbol(lookahead::symbol_at(src, toks, at), token::INDENT) {
         let t = at.0 + 1;
         let on = State {
             at: TokenNumber(t),
@@ -148,7 +148,7 @@ fn inside(src: &[u8], toks: &[u32], tree: &mut [u32], left: u32, s: State) -> Pa
     ensures { λ r. ⌜ Parts (now (src .entry)) (now (toks .entry)) left inner [] a-list s (now (tree .entry)) r (now (tree .exit)) ⌝ }
 {
     let at = s.at;
-    let line = stmt_leaves::skip_newlines(src, toks, at);
+    let line = lookahead::skip_newlines(src, toks, at);
     let on = State {
         at: line,
         nodes: s.nodes,
@@ -158,7 +158,7 @@ fn inside(src: &[u8], toks: &[u32], tree: &mut [u32], left: u32, s: State) -> Pa
     if line.0 != at.0 {
         lines(src, toks, tree, left, on)
     } else {
-        if stmt_leaves::begins_line(leaves::symbol_at(src, toks, at)) {
+        if lookahead::begins_line(lookahead::symbol_at(src, toks, at)) {
             lines(src, toks, tree, left, on)
         } else {
             Parsed::Node(NodeNumber(ast::NONE_NODE), s)
@@ -172,13 +172,13 @@ fn lines(src: &[u8], toks: &[u32], tree: &mut [u32], left: u32, s: State) -> Par
     ensures { λ r. ⌜ Parts (now (src .entry)) (now (toks .entry)) left linesOn [] a-list s (now (tree .entry)) r (now (tree .exit)) ⌝ }
 {
     let at = s.at;
-    if stmt_leaves::begins_line(leaves::symbol_at(src, toks, at)) {
+    if lookahead::begins_line(lookahead::symbol_at(src, toks, at)) {
         let head = rule_line(src, toks, tree, left, s);
         match head {
             Parsed::Node(n, after) => {
                 let k = after.nodes - 1;
                 let from = after.at;
-                let line = stmt_leaves::skip_newlines(src, toks, from);
+                let line = lookahead::skip_newlines(src, toks, from);
                 let on = State {
                     at: line,
                     nodes: after.nodes,
@@ -212,13 +212,13 @@ fn more(
     let mut st = s;
     loop {
         let at = st.at;
-        if stmt_leaves::begins_line(leaves::symbol_at(src, toks, at)) {
+        if lookahead::begins_line(lookahead::symbol_at(src, toks, at)) {
             let next = rule_line(src, toks, tree, left, st);
             match next {
                 Parsed::Node(n, after) => {
                     let k = after.nodes - 1;
                     let from = after.at;
-                    let line = stmt_leaves::skip_newlines(src, toks, from);
+                    let line = lookahead::skip_newlines(src, toks, from);
                     let on = State {
                         at: line,
                         nodes: after.nodes,
@@ -244,7 +244,7 @@ fn dedent(src: &[u8], toks: &[u32], first: NodeNumber, s: State) -> Parsed
     ensures { λ r. ⌜ ((room : ℕ) (tr : List ℕ) → Parts (now (src .entry)) (now (toks .entry)) room (tk Dedent) (list (first .0) ∷ []) a-list s tr r tr) ⌝ }
 {
     let at = s.at;
-    if leaves::is_symbol(leaves::symbol_at(src, toks, at), token::DEDENT) {
+    if lookahead::is_symbol(lookahead::symbol_at(src, toks, at), token::DEDENT) {
         let t = at.0 + 1;
         let on = State {
             at: TokenNumber(t),
@@ -269,7 +269,7 @@ fn rule_class(src: &[u8], toks: &[u32], tree: &mut [u32], left: u32, s: State) -
     let opened = s.opened + 1;
     let t = keyword.0 + 1;
     let name = TokenNumber(t);
-    if leaves::is_name(leaves::symbol_at(src, toks, name)) {
+    if lookahead::is_name(lookahead::symbol_at(src, toks, name)) {
         let u = t + 1;
         let on = State {
             at: TokenNumber(u),
@@ -305,12 +305,12 @@ fn suite(
     ensures { λ r. ⌜ Newest r ⌝ }
 {
     let at = s.at;
-    if leaves::is_symbol(leaves::symbol_at(src, toks, at), token::COLON) {
+    if lookahead::is_symbol(lookahead::symbol_at(src, toks, at), token::COLON) {
         let t = at.0 + 1;
         let next = TokenNumber(t);
-        if leaves::is_symbol(leaves::symbol_at(src, toks, next), token::NEWLINE) {
+        if lookahead::is_symbol(lookahead::symbol_at(src, toks, next), token::NEWLINE) {
             let u = t + 1;
-            let line = stmt_leaves::skip_newlines(src, toks, TokenNumber(u));
+            let line = lookahead::skip_newlines(src, toks, TokenNumber(u));
             let below = State {
                 at: line,
                 nodes: s.nodes,
@@ -348,7 +348,7 @@ fn methods(
     ensures { λ r. ⌜ Newest r ⌝ }
 {
     let at = s.at;
-    if leaves::is_symbol(leaves::symbol_at(src, toks, at), token::INDENT) {
+    if lookahead::is_symbol(lookahead::symbol_at(src, toks, at), token::INDENT) {
         let t = at.0 + 1;
         let on = State {
             at: TokenNumber(t),
@@ -405,7 +405,7 @@ fn method(src: &[u8], toks: &[u32], tree: &mut [u32], left: u32, s: State) -> Pa
     ensures { λ r. ⌜ Parts (now (src .entry)) (now (toks .entry)) left (rules.definition kind.Method) [] a-node s (now (tree .entry)) r (now (tree .exit)) ⌝ }
 {
     let at = s.at;
-    if leaves::is_symbol(leaves::symbol_at(src, toks, at), token::DEF) {
+    if lookahead::is_symbol(lookahead::symbol_at(src, toks, at), token::DEF) {
         let t = at.0 + 1;
         let on = State {
             at: TokenNumber(t),
@@ -435,7 +435,7 @@ fn named(
     ensures { λ r. ⌜ Newest r ⌝ }
 {
     let name = s.at;
-    if leaves::is_name(leaves::symbol_at(src, toks, name)) {
+    if lookahead::is_name(lookahead::symbol_at(src, toks, name)) {
         let t = name.0 + 1;
         let next = TokenNumber(t);
         let on = State {
@@ -444,7 +444,7 @@ fn named(
             opened: s.opened,
             used: s.used,
         };
-        if leaves::is_symbol(leaves::symbol_at(src, toks, next), token::LPAREN) {
+        if lookahead::is_symbol(lookahead::symbol_at(src, toks, next), token::LPAREN) {
             let u = t + 1;
             let within = State {
                 at: TokenNumber(u),
@@ -481,7 +481,7 @@ fn given(
     let names = heads.0;
     let after = heads.1;
     let at = after.at;
-    if leaves::is_symbol(leaves::symbol_at(src, toks, at), token::RPAREN) {
+    if lookahead::is_symbol(lookahead::symbol_at(src, toks, at), token::RPAREN) {
         let t = at.0 + 1;
         let on = State {
             at: TokenNumber(t),
@@ -563,7 +563,7 @@ fn each(
     ensures { λ r. ⌜ Newest r ⌝ }
 {
     let name = s.at;
-    if leaves::is_name(leaves::symbol_at(src, toks, name)) {
+    if lookahead::is_name(lookahead::symbol_at(src, toks, name)) {
         let t = name.0 + 1;
         let next = TokenNumber(t);
         let on = State {
@@ -572,7 +572,7 @@ fn each(
             opened: s.opened,
             used: s.used,
         };
-        if leaves::is_symbol(leaves::symbol_at(src, toks, next), token::IN) {
+        if lookahead::is_symbol(lookahead::symbol_at(src, toks, next), token::IN) {
             let u = t + 1;
             let within = State {
                 at: TokenNumber(u),
@@ -677,7 +677,7 @@ fn elifs(src: &[u8], toks: &[u32], tree: &mut [u32], left: u32, s: State) -> Par
     ensures { λ r. ⌜ Parts (now (src .entry)) (now (toks .entry)) left elifsOn [] a-list s (now (tree .entry)) r (now (tree .exit)) ⌝ }
 {
     let at = s.at;
-    if leaves::is_symbol(leaves::symbol_at(src, toks, at), token::ELIF) {
+    if lookahead::is_symbol(lookahead::symbol_at(src, toks, at), token::ELIF) {
         let one = elif(src, toks, tree, left, s);
         match one {
             Parsed::Node(n, after) => further(src, toks, tree, left, false, n, after),
@@ -706,7 +706,7 @@ fn further(
     let mut st = s;
     loop {
         let at = st.at;
-        if leads(leaves::symbol_at(src, toks, at), methods) {
+        if leads(lookahead::symbol_at(src, toks, at), methods) {
             let next = member(src, toks, tree, left, methods, st);
             match next {
                 Parsed::Node(n, after) => {
@@ -727,9 +727,9 @@ fn leads(symbol: u32, methods: bool) -> bool
     ensures { λ r. ⌜ r ≡ mem symbol (leading methods ∷ []) ⌝ }
 {
     if methods {
-        leaves::is_symbol(symbol, token::DEF)
+        lookahead::is_symbol(symbol, token::DEF)
     } else {
-        leaves::is_symbol(symbol, token::ELIF)
+        lookahead::is_symbol(symbol, token::ELIF)
     }
 }
 
@@ -778,7 +778,7 @@ fn other(src: &[u8], toks: &[u32], tree: &mut [u32], left: u32, s: State) -> Par
     ensures { λ r. ⌜ Parts (now (src .entry)) (now (toks .entry)) left elseOn [] a-list s (now (tree .entry)) r (now (tree .exit)) ⌝ }
 {
     let keyword = s.at;
-    if leaves::is_symbol(leaves::symbol_at(src, toks, keyword), token::ELSE) {
+    if lookahead::is_symbol(lookahead::symbol_at(src, toks, keyword), token::ELSE) {
         let t = keyword.0 + 1;
         let on = State {
             at: TokenNumber(t),

@@ -5,7 +5,7 @@ ghost use lib.ListN.{length};
 ghost use Rattle.pyhyeon.specs.Machine.{list};
 ghost use Rattle.pyhyeon.specs.Rules.{Program};
 ghost use Rattle.pyhyeon.specs.Tables.{depth};
-ghost use Rattle.leaves.specs.Tokens.{eofAt, Tokens};
+ghost use Rattle.lookahead.specs.Tokens.{eofAt, Tokens};
 ghost use Rattle.leaves.specs.Contract.{a-node, Rules, Parts, Ready};
 ghost use Rattle.stmt.specs.Parts.{start, programEnd};
 use crate::DEPTH;
@@ -21,14 +21,14 @@ fn rule_program(src: &[u8], toks: &[u32], tree: &mut [u32], left: u32, s: State)
 {
     let opened = s.opened + 1;
     let at = s.at;
-    let line = stmt_leaves::skip_newlines(src, toks, at);
+    let line = lookahead::skip_newlines(src, toks, at);
     let on = State {
         at: line,
         nodes: s.nodes,
         opened: opened,
         used: s.used,
     };
-    if stmt_leaves::begins_line(leaves::symbol_at(src, toks, line)) {
+    if lookahead::begins_line(lookahead::symbol_at(src, toks, line)) {
         let body = lines(src, toks, tree, left, on);
         match body {
             Parsed::Node(n, after) => end(src, toks, tree, n, after),
@@ -45,7 +45,7 @@ fn end(src: &[u8], toks: &[u32], tree: &mut [u32], first: NodeNumber, s: State) 
     ensures { λ r. ⌜ ((room : ℕ) → Parts (now (src .entry)) (now (toks .entry)) room programEnd (list (first .0) ∷ []) a-node s (now (tree .entry)) r (now (tree .exit))) ⌝ }
 {
     let at = s.at;
-    if leaves::is_symbol(leaves::symbol_at(src, toks, at), token::EOF) {
+    if lookahead::is_symbol(lookahead::symbol_at(src, toks, at), token::EOF) {
         let made = stmt_leaves::put_program(src, tree, first, s);
         let m = made.0;
         let done = made.1;

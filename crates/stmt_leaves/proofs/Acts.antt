@@ -14,7 +14,7 @@ use Rattle.pyhyeon.specs.Machine.{Value, node, list, number, Kept, write}
 use Rattle.pyhyeon.specs.Action.{Action, assign, program, tokenAt, perform}
 use Rattle.leaves.specs.declared.State.{State}
 use Rattle.leaves.specs.declared.Added.{Added}
-use Rattle.leaves.specs.Tokens.{startAt, endAt, tokensOf}
+use Rattle.lookahead.specs.Tokens.{startAt, endAt, tokensOf}
 use Rattle.leaves.specs.Contract.{added, kept, Spot, Writes}
 use Rattle.leaves.specs.Put.{Put}
 use Rattle.leaves.proofs.Frames.{frame-put, frame-span, frame-then}

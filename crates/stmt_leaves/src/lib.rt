@@ -1,9 +1,7 @@
-// The leaves of the statements' rules (src/parser/mod.rs): the function of each action that writes a statement's node, and what begins a
-// statement. Their contracts are those of the other leaves: specs/Contract.antt there.
+// The leaves of the statements' rules (src/parser/mod.rs): the function of each action that writes a statement's node. Their contracts are those of
+// specs/Contract.antt of `leaves`.
 mod blocks;
-mod newlines;
 mod one_line;
-mod sets;
 
 pub use blocks::put_class;
 pub use blocks::put_def;
@@ -13,10 +11,7 @@ pub use blocks::put_for;
 pub use blocks::put_if;
 pub use blocks::put_program;
 pub use blocks::put_while;
-pub use newlines::skip_newlines;
 pub use one_line::put_alone;
 pub use one_line::put_assign;
 pub use one_line::put_expr;
 pub use one_line::put_return;
-pub use sets::begins_line;
-pub use sets::begins_simple;

@@ -6,9 +6,9 @@ ghost use Rattle.pyhyeon.specs.Action.{alone, expr, assign, return};
 ghost use Rattle.leaves.specs.Contract.{Spot, Writes};
 use leaves::Added;
 use leaves::State;
-use leaves::end_at;
 use leaves::put_begun;
 use leaves::put_opened;
+use lookahead::end_at;
 use token::NodeNumber;
 use token::TokenNumber;
 

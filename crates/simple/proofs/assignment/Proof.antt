@@ -6,8 +6,8 @@ use Rattle.joint.proofs.Counts.{came-fresh, came-node}
 use Rattle.joint.proofs.Loops.{ready-of}
 use Rattle.joint.proofs.Ends.{act-wrote}
 use Rattle.joint.proofs.Chain.{tok-then, part-then, part-stop, or-first, or-next}
-use Rattle.leaves.proofs.Tests.{learnt}
-use Rattle.leaves.proofs.Tokens.{took}
+use Rattle.lookahead.proofs.Tests.{learnt}
+use Rattle.lookahead.proofs.Tokens.{took}
 use Rattle.grammar.specs.Descent.{null, begins}
 use Rattle.token.specs.Code as code
 use native.Mathlib.Omega.{arith}

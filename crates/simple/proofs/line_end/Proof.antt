@@ -2,8 +2,8 @@
 -- Assumes nothing.
 use Rattle.joint.proofs.Seen.{see-end, see-no, tok-end}
 use Rattle.joint.proofs.Chain.{or-first, or-next}
-use Rattle.leaves.proofs.Tests.{coded, not-first}
-use Rattle.leaves.proofs.Tokens.{took}
+use Rattle.lookahead.proofs.Tests.{coded, not-first}
+use Rattle.lookahead.proofs.Tokens.{took}
 use Rattle.grammar.specs.Descent.{null, begins}
 use Rattle.token.specs.Code as code
 use native.Mathlib.Omega.{arith}

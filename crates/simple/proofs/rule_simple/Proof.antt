@@ -3,8 +3,8 @@
 use Rattle.joint.proofs.Loops.{ready-of}
 use Rattle.joint.proofs.Ends.{tok-mark}
 use Rattle.joint.proofs.Chain.{open-plain, tok-then, or-first, or-next}
-use Rattle.leaves.proofs.Tests.{coded, not-first}
-use Rattle.leaves.proofs.Tokens.{took}
+use Rattle.lookahead.proofs.Tests.{coded, not-first}
+use Rattle.lookahead.proofs.Tokens.{took}
 use Rattle.pyhyeon.specs.Tables.{joined, first, opens, firstE}
 use Rattle.pyhyeon.specs.Rules.{plain}
 use Rattle.grammar.specs.Descent.{null, begins}

@@ -4,8 +4,8 @@ use Rattle.joint.proofs.Counts.{came-rule, pays-simple}
 use Rattle.joint.proofs.Loops.{ready-of}
 use Rattle.joint.proofs.Ends.{one-then}
 use Rattle.joint.proofs.Chain.{called, not-called, part-then, part-stop}
-use Rattle.leaves.proofs.Tests.{learnt}
-use Rattle.leaves.proofs.Tokens.{before-eof}
+use Rattle.lookahead.proofs.Tests.{learnt}
+use Rattle.lookahead.proofs.Tokens.{before-eof}
 use Rattle.pyhyeon.specs.Tables.{first, firstSimple, rank}
 use native.Mathlib.Omega.{arith}
 use mathlib.Core.Path.{refl}

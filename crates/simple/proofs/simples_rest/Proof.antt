@@ -5,9 +5,9 @@ use Rattle.joint.proofs.Counts.{came-rule, came-node, pays-simple}
 use Rattle.joint.proofs.Loops.{Listing, begin-list, ready-of}
 use Rattle.joint.proofs.Ends.{one-then, changed-then}
 use Rattle.joint.proofs.Chain.{called, part-then, part-stop, list-on, list-shut, list-end}
-use Rattle.leaves.proofs.Tests.{learnt}
-use Rattle.leaves.proofs.Tokens.{before-eof, took}
-use Rattle.leaves.specs.Tokens.{eofAt}
+use Rattle.lookahead.proofs.Tests.{learnt}
+use Rattle.lookahead.proofs.Tokens.{before-eof, took}
+use Rattle.lookahead.specs.Tokens.{eofAt}
 use Rattle.pyhyeon.specs.Tables.{first, firstSimple, rank}
 use Rattle.pyhyeon.specs.Rules.{Simple, more}
 use Rattle.grammar.specs.Descent.{null, begins}

@@ -3,8 +3,8 @@
 use mathlib.Core.Path.{refl, sym, _∙_}
 use mathlib.Core.List.{[], _∷_}
 use Rattle.token.specs.Code as code
-use Rattle.leaves.proofs.Tests.{learnt}
-use Rattle.leaves.proofs.Tokens.{took}
+use Rattle.lookahead.proofs.Tests.{learnt}
+use Rattle.lookahead.proofs.Tokens.{took}
 use Rattle.joint.proofs.Seen.{tok-end, tok-no}
 use native.Mathlib.Omega.{arith}
 use borrow.Author.Needs.{needs}

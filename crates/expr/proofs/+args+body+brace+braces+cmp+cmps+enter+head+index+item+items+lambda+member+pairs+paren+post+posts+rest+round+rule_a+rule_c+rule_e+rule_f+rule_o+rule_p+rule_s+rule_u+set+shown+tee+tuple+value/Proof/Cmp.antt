@@ -4,8 +4,8 @@ use Rattle.joint.proofs.Loops.{ready-of}
 use Rattle.joint.proofs.Ends.{compare-then}
 use Rattle.joint.proofs.Chain.{called, not-called, part-then, part-stop}
 use Rattle.joint.proofs.Bounds.{after-rule, spares-s}
-use Rattle.leaves.proofs.Tokens.{before-eof}
-use Rattle.leaves.proofs.Tests.{learnt}
+use Rattle.lookahead.proofs.Tokens.{before-eof}
+use Rattle.lookahead.proofs.Tests.{learnt}
 use Rattle.pyhyeon.specs.Tables.{first, firstU, rank}
 use mathlib.Core.Path.{refl}
 use borrow.Author.Needs.{needs}
@@ -13,10 +13,10 @@ use native.Mathlib.Omega.{arith}
 use Prim.Native.Nat.{ℕ}
 use Rattle.expr.proofs.+args+body+brace+braces+cmp+cmps+enter+head+index+item+items+lambda+member+pairs+paren+post+posts+rest+round+rule_a+rule_c+rule_e+rule_f+rule_o+rule_p+rule_s+rule_u+set+shown+tee+tuple+value.Lts-cmp as lts
 use Rattle.expr.proofs.cmp.Reads as reads
-use Rattle.leaves.proofs.symbol_at.Reads as symbol-at-reads
-use Rattle.leaves.proofs.begins_u.Reads as begins-u-reads
+use Rattle.lookahead.proofs.symbol_at.Reads as symbol-at-reads
+use Rattle.lookahead.proofs.begins_u.Reads as begins-u-reads
 use Rattle.expr.proofs.rule_s.Reads as rule-s
-use Rattle.leaves.proofs.put_binary.Reads as put-binary-reads
+use Rattle.expr_leaves.proofs.put_binary.Reads as put-binary-reads
 use Rattle.expr.proofs.cmps.Reads as cmps
 use Rattle.expr.proofs.+args+body+brace+braces+cmp+cmps+enter+head+index+item+items+lambda+member+pairs+paren+post+posts+rest+round+rule_a+rule_c+rule_e+rule_f+rule_o+rule_p+rule_s+rule_u+set+shown+tee+tuple+value.Proof.Start.{cmp-at, rule-s-below, cmps-below}
 

@@ -1,7 +1,7 @@
 -- `expr::cmps`, a member of the cycle.
 -- Assumes nothing.
 use Rattle.expr.specs.Parts.{chained}
-use Rattle.leaves.specs.Tokens.{eofAt}
+use Rattle.lookahead.specs.Tokens.{eofAt}
 use Rattle.pyhyeon.specs.Rules.{comparisons}
 use Rattle.pyhyeon.specs.Machine.{chain}
 use Prim.Native.Nat.{_-_, _<_}
@@ -10,8 +10,8 @@ use Rattle.joint.proofs.Loops.{Going, begin, ready-of}
 use Rattle.joint.proofs.Ends.{compared-last, tok-mark, further-then}
 use Rattle.joint.proofs.Chain.{called, not-called, part-then, part-stop, many-on, many-end}
 use Rattle.joint.proofs.Bounds.{after-rule, spares-s}
-use Rattle.leaves.proofs.Tokens.{before-eof, took}
-use Rattle.leaves.proofs.Tests.{learnt}
+use Rattle.lookahead.proofs.Tokens.{before-eof, took}
+use Rattle.lookahead.proofs.Tests.{learnt}
 use Rattle.pyhyeon.specs.Tables.{first, firstU, rank}
 use Rattle.grammar.specs.Descent.{null, begins}
 use mathlib.Core.List.{[], _∷_}
@@ -21,12 +21,12 @@ use native.Mathlib.Omega.{arith}
 use Prim.Native.Nat.{ℕ}
 use Rattle.expr.proofs.+args+body+brace+braces+cmp+cmps+enter+head+index+item+items+lambda+member+pairs+paren+post+posts+rest+round+rule_a+rule_c+rule_e+rule_f+rule_o+rule_p+rule_s+rule_u+set+shown+tee+tuple+value.Lts-cmps as lts
 use Rattle.expr.proofs.cmps.Reads as reads
-use Rattle.leaves.proofs.symbol_at.Reads as symbol-at-reads
-use Rattle.leaves.proofs.is_comparison.Reads as is-comparison-reads
-use Rattle.leaves.proofs.begins_u.Reads as begins-u-reads
+use Rattle.lookahead.proofs.symbol_at.Reads as symbol-at-reads
+use Rattle.lookahead.proofs.is_comparison.Reads as is-comparison-reads
+use Rattle.lookahead.proofs.begins_u.Reads as begins-u-reads
 use Rattle.expr.proofs.rule_s.Reads as rule-s
-use Rattle.leaves.proofs.put_binary.Reads as put-binary-reads
-use Rattle.leaves.proofs.put_and.Reads as put-and-reads
+use Rattle.expr_leaves.proofs.put_binary.Reads as put-binary-reads
+use Rattle.expr_leaves.proofs.put_and.Reads as put-and-reads
 use Rattle.expr.proofs.+args+body+brace+braces+cmp+cmps+enter+head+index+item+items+lambda+member+pairs+paren+post+posts+rest+round+rule_a+rule_c+rule_e+rule_f+rule_o+rule_p+rule_s+rule_u+set+shown+tee+tuple+value.Proof.Start.{cmps-at, rule-s-below}
 
 abbrev calls : ℕ → lts.Claims

@@ -1,15 +1,15 @@
 -- `expr::enter`, a member of the cycle.
 -- Assumes nothing.
 use Rattle.joint.proofs.Chain.{called, not-called}
-use Rattle.leaves.proofs.Tests.{learnt}
+use Rattle.lookahead.proofs.Tests.{learnt}
 use Rattle.pyhyeon.specs.Tables.{first, firstE}
 use borrow.Author.Needs.{needs}
 use native.Mathlib.Omega.{arith}
 use Prim.Native.Nat.{ℕ}
 use Rattle.expr.proofs.+args+body+brace+braces+cmp+cmps+enter+head+index+item+items+lambda+member+pairs+paren+post+posts+rest+round+rule_a+rule_c+rule_e+rule_f+rule_o+rule_p+rule_s+rule_u+set+shown+tee+tuple+value.Lts-enter as lts
 use Rattle.expr.proofs.enter.Reads as reads
-use Rattle.leaves.proofs.symbol_at.Reads as symbol-at-reads
-use Rattle.leaves.proofs.begins_e.Reads as begins-e-reads
+use Rattle.lookahead.proofs.symbol_at.Reads as symbol-at-reads
+use Rattle.lookahead.proofs.begins_e.Reads as begins-e-reads
 use Rattle.expr.proofs.rule_e.Reads as rule-e
 use Rattle.expr.proofs.+args+body+brace+braces+cmp+cmps+enter+head+index+item+items+lambda+member+pairs+paren+post+posts+rest+round+rule_a+rule_c+rule_e+rule_f+rule_o+rule_p+rule_s+rule_u+set+shown+tee+tuple+value.Proof.Start.{enter-at, rule-e-below}
 

@@ -2,32 +2,32 @@
 -- Assumes nothing.
 use Prim.Native.Nat.{_+_, _-_}
 use mathlib.Core.Path.{_≡_}
-use Rattle.leaves.proofs.Tests.{of-first}
+use Rattle.lookahead.proofs.Tests.{of-first}
 use Rattle.pyhyeon.specs.Rules.{literals}
 use Rattle.pyhyeon.specs.Symbol.{Tee}
 use Rattle.joint.proofs.Loops.{ready-of}
 use Rattle.joint.proofs.Ends.{act-wrote, act-literal, tok-mark}
 use Rattle.joint.proofs.Chain.{tok-then, or-first, or-next}
-use Rattle.leaves.proofs.Tokens.{before-eof, took}
-use Rattle.leaves.proofs.Tests.{coded, not-first}
+use Rattle.lookahead.proofs.Tokens.{before-eof, took}
+use Rattle.lookahead.proofs.Tests.{coded, not-first}
 use Rattle.pyhyeon.specs.Tables.{first, firstF}
 use Rattle.token.specs.Code as code
 use Rattle.grammar.specs.Descent.{null, begins}
 use mathlib.Core.List.{[], _∷_}
 use mathlib.Core.Path.{refl, sym, _∙_}
-use Rattle.leaves.specs.Tokens.{symbolAt}
+use Rattle.lookahead.specs.Tokens.{symbolAt}
 use borrow.Author.Needs.{needs}
 use native.Mathlib.Omega.{arith}
 use Prim.Native.Nat.{ℕ}
 use Rattle.expr.proofs.+args+body+brace+braces+cmp+cmps+enter+head+index+item+items+lambda+member+pairs+paren+post+posts+rest+round+rule_a+rule_c+rule_e+rule_f+rule_o+rule_p+rule_s+rule_u+set+shown+tee+tuple+value.Lts-head as lts
 use Rattle.expr.proofs.head.Reads as reads
-use Rattle.leaves.proofs.symbol_at.Reads as symbol-at-reads
+use Rattle.lookahead.proofs.symbol_at.Reads as symbol-at-reads
 use Rattle.expr.proofs.shown.Reads as shown
 use Rattle.expr.proofs.tee.Reads as tee
 use Rattle.expr.proofs.braces.Reads as braces
 use Rattle.expr.proofs.round.Reads as round
-use Rattle.leaves.proofs.put_named.Reads as put-named-reads
-use Rattle.leaves.proofs.put_literal.Reads as put-literal-reads
+use Rattle.expr_leaves.proofs.put_named.Reads as put-named-reads
+use Rattle.expr_leaves.proofs.put_literal.Reads as put-literal-reads
 use Rattle.expr.proofs.+args+body+brace+braces+cmp+cmps+enter+head+index+item+items+lambda+member+pairs+paren+post+posts+rest+round+rule_a+rule_c+rule_e+rule_f+rule_o+rule_p+rule_s+rule_u+set+shown+tee+tuple+value.Proof.Start.{head-at, shown-below, tee-below, braces-below, round-below}
 
 abbrev calls : ℕ → lts.Claims

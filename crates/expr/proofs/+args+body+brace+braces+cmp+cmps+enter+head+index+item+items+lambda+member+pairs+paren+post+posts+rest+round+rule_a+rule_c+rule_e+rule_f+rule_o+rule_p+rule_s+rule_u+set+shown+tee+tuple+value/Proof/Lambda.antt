@@ -4,8 +4,8 @@ use Rattle.expr.proofs.Low.{modest-parameters}
 use Rattle.joint.proofs.Loops.{ready-of}
 use Rattle.joint.proofs.Chain.{tok-then, tok-not, part-then}
 use Rattle.joint.proofs.Bounds.{after-list}
-use Rattle.leaves.proofs.Tokens.{took}
-use Rattle.leaves.proofs.Tests.{learnt}
+use Rattle.lookahead.proofs.Tokens.{took}
+use Rattle.lookahead.proofs.Tests.{learnt}
 use Rattle.token.specs.Code as code
 use mathlib.Core.List.{[], _∷_}
 use mathlib.Core.Path.{refl}
@@ -15,8 +15,8 @@ use Prim.Native.Nat.{ℕ}
 use Rattle.expr.proofs.+args+body+brace+braces+cmp+cmps+enter+head+index+item+items+lambda+member+pairs+paren+post+posts+rest+round+rule_a+rule_c+rule_e+rule_f+rule_o+rule_p+rule_s+rule_u+set+shown+tee+tuple+value.Lts-lambda as lts
 use Rattle.expr.proofs.lambda.Reads as reads
 use Rattle.expr.proofs.parameters.names.Reads as names-reads
-use Rattle.leaves.proofs.symbol_at.Reads as symbol-at-reads
-use Rattle.leaves.proofs.is_symbol.Reads as is-symbol-reads
+use Rattle.lookahead.proofs.symbol_at.Reads as symbol-at-reads
+use Rattle.lookahead.proofs.is_symbol.Reads as is-symbol-reads
 use Rattle.expr.proofs.body.Reads as body
 use Rattle.expr.proofs.+args+body+brace+braces+cmp+cmps+enter+head+index+item+items+lambda+member+pairs+paren+post+posts+rest+round+rule_a+rule_c+rule_e+rule_f+rule_o+rule_p+rule_s+rule_u+set+shown+tee+tuple+value.Proof.Start.{lambda-at, body-below}
 

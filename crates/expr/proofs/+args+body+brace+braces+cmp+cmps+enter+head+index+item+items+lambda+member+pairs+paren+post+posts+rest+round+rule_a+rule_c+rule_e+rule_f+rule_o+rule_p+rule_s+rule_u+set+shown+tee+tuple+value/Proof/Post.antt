@@ -4,8 +4,8 @@ use Rattle.pyhyeon.specs.Rules.{names}
 use Rattle.joint.proofs.Loops.{ready-of}
 use Rattle.joint.proofs.Ends.{act-wrote}
 use Rattle.joint.proofs.Chain.{tok-then, tok-not, or-first, or-next}
-use Rattle.leaves.proofs.Tokens.{took}
-use Rattle.leaves.proofs.Tests.{learnt, coded, not-first}
+use Rattle.lookahead.proofs.Tokens.{took}
+use Rattle.lookahead.proofs.Tests.{learnt, coded, not-first}
 use Rattle.token.specs.Code as code
 use Rattle.grammar.specs.Descent.{null, begins}
 use mathlib.Core.List.{[], _∷_}
@@ -15,9 +15,9 @@ use native.Mathlib.Omega.{arith}
 use Prim.Native.Nat.{ℕ}
 use Rattle.expr.proofs.+args+body+brace+braces+cmp+cmps+enter+head+index+item+items+lambda+member+pairs+paren+post+posts+rest+round+rule_a+rule_c+rule_e+rule_f+rule_o+rule_p+rule_s+rule_u+set+shown+tee+tuple+value.Lts-post as lts
 use Rattle.expr.proofs.post.Reads as reads
-use Rattle.leaves.proofs.symbol_at.Reads as symbol-at-reads
-use Rattle.leaves.proofs.is_name.Reads as is-name-reads
-use Rattle.leaves.proofs.put_attribute.Reads as put-attribute-reads
+use Rattle.lookahead.proofs.symbol_at.Reads as symbol-at-reads
+use Rattle.lookahead.proofs.is_name.Reads as is-name-reads
+use Rattle.expr_leaves.proofs.put_attribute.Reads as put-attribute-reads
 use Rattle.expr.proofs.args.Reads as args
 use Rattle.expr.proofs.index.Reads as index
 use Rattle.expr.proofs.+args+body+brace+braces+cmp+cmps+enter+head+index+item+items+lambda+member+pairs+paren+post+posts+rest+round+rule_a+rule_c+rule_e+rule_f+rule_o+rule_p+rule_s+rule_u+set+shown+tee+tuple+value.Proof.Start.{post-at, args-below, index-below}

@@ -1,6 +1,6 @@
 -- `expr::posts`, a member of the cycle.
 -- Assumes nothing.
-use Rattle.leaves.specs.Tokens.{eofAt}
+use Rattle.lookahead.specs.Tokens.{eofAt}
 use Rattle.pyhyeon.specs.Rules.{postfix}
 use Rattle.pyhyeon.specs.Machine.{node}
 use Prim.Native.Nat.{_-_}
@@ -8,8 +8,8 @@ use Rattle.expr.proofs.Low.{low-postfix, bounded-postfix}
 use Rattle.joint.proofs.Loops.{Going, begin, ready-of}
 use Rattle.joint.proofs.Chain.{flat-then, flat-stop, turn-on, turn-end}
 use Rattle.joint.proofs.Bounds.{after-part}
-use Rattle.leaves.proofs.Tokens.{before-eof}
-use Rattle.leaves.proofs.Tests.{learnt}
+use Rattle.lookahead.proofs.Tokens.{before-eof}
+use Rattle.lookahead.proofs.Tests.{learnt}
 use Rattle.token.specs.Code as code
 use Rattle.grammar.specs.Descent.{null, begins}
 use Rattle.grammar.specs.Grammar.{many}
@@ -20,8 +20,8 @@ use native.Mathlib.Omega.{arith}
 use Prim.Native.Nat.{ℕ}
 use Rattle.expr.proofs.+args+body+brace+braces+cmp+cmps+enter+head+index+item+items+lambda+member+pairs+paren+post+posts+rest+round+rule_a+rule_c+rule_e+rule_f+rule_o+rule_p+rule_s+rule_u+set+shown+tee+tuple+value.Lts-posts as lts
 use Rattle.expr.proofs.posts.Reads as reads
-use Rattle.leaves.proofs.symbol_at.Reads as symbol-at-reads
-use Rattle.leaves.proofs.begins_postfix.Reads as begins-postfix-reads
+use Rattle.lookahead.proofs.symbol_at.Reads as symbol-at-reads
+use Rattle.lookahead.proofs.begins_postfix.Reads as begins-postfix-reads
 use Rattle.expr.proofs.post.Reads as post
 use Rattle.expr.proofs.+args+body+brace+braces+cmp+cmps+enter+head+index+item+items+lambda+member+pairs+paren+post+posts+rest+round+rule_a+rule_c+rule_e+rule_f+rule_o+rule_p+rule_s+rule_u+set+shown+tee+tuple+value.Proof.Start.{posts-at, post-below}
 

@@ -1,6 +1,6 @@
 -- `expr::rest`, a member of the cycle.
 -- Assumes nothing.
-use Rattle.leaves.specs.Tokens.{eofAt}
+use Rattle.lookahead.specs.Tokens.{eofAt}
 use Rattle.expr.specs.Parts.{others}
 use Prim.Native.Nat.{_-_}
 use Rattle.expr.proofs.Low.{low-member, begins-member, bounded-member}
@@ -8,8 +8,8 @@ use Rattle.joint.proofs.Loops.{Listing, begin-list, lists-node, lists-stop, rea
 use Rattle.joint.proofs.Ends.{one-then, changed-then}
 use Rattle.joint.proofs.Chain.{part-then, part-stop, list-on, list-shut, list-end}
 use Rattle.joint.proofs.Bounds.{after-start}
-use Rattle.leaves.proofs.Tokens.{before-eof, took}
-use Rattle.leaves.proofs.Tests.{learnt}
+use Rattle.lookahead.proofs.Tokens.{before-eof, took}
+use Rattle.lookahead.proofs.Tests.{learnt}
 use Rattle.pyhyeon.specs.Tables.{first, firstE, rank}
 use Rattle.token.specs.Code as code
 use Rattle.grammar.specs.Descent.{null, begins}
@@ -20,9 +20,9 @@ use native.Mathlib.Omega.{arith}
 use Prim.Native.Nat.{ℕ}
 use Rattle.expr.proofs.+args+body+brace+braces+cmp+cmps+enter+head+index+item+items+lambda+member+pairs+paren+post+posts+rest+round+rule_a+rule_c+rule_e+rule_f+rule_o+rule_p+rule_s+rule_u+set+shown+tee+tuple+value.Lts-rest as lts
 use Rattle.expr.proofs.rest.Reads as reads
-use Rattle.leaves.proofs.symbol_at.Reads as symbol-at-reads
-use Rattle.leaves.proofs.is_symbol.Reads as is-symbol-reads
-use Rattle.leaves.proofs.begins_e.Reads as begins-e-reads
+use Rattle.lookahead.proofs.symbol_at.Reads as symbol-at-reads
+use Rattle.lookahead.proofs.is_symbol.Reads as is-symbol-reads
+use Rattle.lookahead.proofs.begins_e.Reads as begins-e-reads
 use Rattle.expr.proofs.member.Reads as member
 use Rattle.leaves.proofs.link.Reads as link-reads
 use Rattle.expr.proofs.+args+body+brace+braces+cmp+cmps+enter+head+index+item+items+lambda+member+pairs+paren+post+posts+rest+round+rule_a+rule_c+rule_e+rule_f+rule_o+rule_p+rule_s+rule_u+set+shown+tee+tuple+value.Proof.Start.{rest-at, member-below}

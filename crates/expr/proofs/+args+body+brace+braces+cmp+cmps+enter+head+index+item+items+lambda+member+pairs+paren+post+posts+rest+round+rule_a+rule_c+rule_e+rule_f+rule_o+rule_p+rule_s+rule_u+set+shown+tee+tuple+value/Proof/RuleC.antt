@@ -5,8 +5,8 @@ use Rattle.joint.proofs.Loops.{ready-of}
 use Rattle.joint.proofs.Ends.{tok-mark}
 use Rattle.joint.proofs.Chain.{called, part-then, part-stop, or-first, or-next, skip-end, open-plain}
 use Rattle.joint.proofs.Bounds.{after-rule, spares-s}
-use Rattle.leaves.proofs.Tokens.{before-eof, took}
-use Rattle.leaves.proofs.Tests.{learnt}
+use Rattle.lookahead.proofs.Tokens.{before-eof, took}
+use Rattle.lookahead.proofs.Tests.{learnt}
 use Rattle.pyhyeon.specs.Tables.{joined, first, firstU, rank, opens}
 use Rattle.pyhyeon.specs.Rules.{plain}
 use Rattle.grammar.specs.Descent.{null, begins}
@@ -17,8 +17,8 @@ use Prim.Native.Nat.{ℕ}
 use Rattle.expr.proofs.+args+body+brace+braces+cmp+cmps+enter+head+index+item+items+lambda+member+pairs+paren+post+posts+rest+round+rule_a+rule_c+rule_e+rule_f+rule_o+rule_p+rule_s+rule_u+set+shown+tee+tuple+value.Lts-rule_c as lts
 use Rattle.expr.proofs.rule_c.Reads as reads
 use Rattle.expr.proofs.rule_s.Reads as rule-s
-use Rattle.leaves.proofs.symbol_at.Reads as symbol-at-reads
-use Rattle.leaves.proofs.is_comparison.Reads as is-comparison-reads
+use Rattle.lookahead.proofs.symbol_at.Reads as symbol-at-reads
+use Rattle.lookahead.proofs.is_comparison.Reads as is-comparison-reads
 use Rattle.expr.proofs.cmp.Reads as cmp
 use Rattle.expr.proofs.+args+body+brace+braces+cmp+cmps+enter+head+index+item+items+lambda+member+pairs+paren+post+posts+rest+round+rule_a+rule_c+rule_e+rule_f+rule_o+rule_p+rule_s+rule_u+set+shown+tee+tuple+value.Proof.Start.{rule-c-at, rule-s-below, cmp-below}
 

@@ -3,22 +3,22 @@
 use Rattle.joint.proofs.Loops.{ready-of}
 use Rattle.joint.proofs.Ends.{tok-mark}
 use Rattle.joint.proofs.Chain.{called, or-first, or-next, open-deep, open-room}
-use Rattle.leaves.proofs.Tokens.{took}
-use Rattle.leaves.proofs.Tests.{learnt, without}
+use Rattle.lookahead.proofs.Tokens.{took}
+use Rattle.lookahead.proofs.Tests.{learnt, without}
 use Rattle.pyhyeon.specs.Tables.{joined, first, firstU, opens}
 use Rattle.pyhyeon.specs.Rules.{plain}
 use Rattle.token.specs.Code as code
 use Rattle.grammar.specs.Descent.{null, begins}
 use mathlib.Core.List.{[], _∷_}
 use mathlib.Core.Path.{refl}
-use Rattle.leaves.specs.Tokens.{symbolAt}
+use Rattle.lookahead.specs.Tokens.{symbolAt}
 use borrow.Author.Needs.{needs}
 use native.Mathlib.Omega.{arith}
 use Prim.Native.Nat.{ℕ}
 use Rattle.expr.proofs.+args+body+brace+braces+cmp+cmps+enter+head+index+item+items+lambda+member+pairs+paren+post+posts+rest+round+rule_a+rule_c+rule_e+rule_f+rule_o+rule_p+rule_s+rule_u+set+shown+tee+tuple+value.Lts-rule_e as lts
 use Rattle.expr.proofs.rule_e.Reads as reads
-use Rattle.leaves.proofs.symbol_at.Reads as symbol-at-reads
-use Rattle.leaves.proofs.is_symbol.Reads as is-symbol-reads
+use Rattle.lookahead.proofs.symbol_at.Reads as symbol-at-reads
+use Rattle.lookahead.proofs.is_symbol.Reads as is-symbol-reads
 use Rattle.expr.proofs.lambda.Reads as lambda
 use Rattle.expr.proofs.rule_o.Reads as rule-o
 use Rattle.expr.proofs.+args+body+brace+braces+cmp+cmps+enter+head+index+item+items+lambda+member+pairs+paren+post+posts+rest+round+rule_a+rule_c+rule_e+rule_f+rule_o+rule_p+rule_s+rule_u+set+shown+tee+tuple+value.Proof.Start.{rule-e-at, lambda-below, rule-o-below}

@@ -4,7 +4,7 @@ use Rattle.expr.proofs.Low.{bounded-primary}
 use Rattle.joint.proofs.Loops.{ready-of}
 use Rattle.joint.proofs.Chain.{part-then, part-stop, open-plain}
 use Rattle.joint.proofs.Bounds.{after-start}
-use Rattle.leaves.proofs.Tokens.{before-eof}
+use Rattle.lookahead.proofs.Tokens.{before-eof}
 use Rattle.pyhyeon.specs.Tables.{joined, first, firstF, opens}
 use mathlib.Core.Path.{refl}
 use borrow.Author.Needs.{needs}

@@ -1,8 +1,8 @@
 -- `expr::rule_o`, a member of the cycle.
 -- Assumes nothing.
-use Rattle.expr.proofs.Grouping.{Reading, grouped-is, reading-starts, reading-stops, reading-spot, reading-held, reading-here, reading-ends, reading-misses, reading-less, reading-goes}
+use Rattle.levels.proofs.Grouping.{Reading, grouped-is, reading-starts, reading-stops, reading-spot, reading-held, reading-here, reading-ends, reading-misses, reading-less, reading-goes}
 use Rattle.joint.proofs.Loops.{ready-of}
-use Rattle.leaves.specs.Tokens.{eofAt}
+use Rattle.lookahead.specs.Tokens.{eofAt}
 use Rattle.pyhyeon.specs.Tables.{first, rank}
 use native.Mathlib.Omega.{arith}
 use borrow.Author.Needs.{needs}
@@ -10,8 +10,8 @@ use Prim.Native.Nat.{ℕ, _-_}
 use Rattle.expr.proofs.+args+body+brace+braces+cmp+cmps+enter+head+index+item+items+lambda+member+pairs+paren+post+posts+rest+round+rule_a+rule_c+rule_e+rule_f+rule_o+rule_p+rule_s+rule_u+set+shown+tee+tuple+value.Lts-rule_o as lts
 use Rattle.expr.proofs.rule_o.Reads as reads
 use Rattle.expr.proofs.rule_a.Reads as rule-a
-use Rattle.expr.proofs.levels.joined.Reads as joined-reads
-use Rattle.expr.proofs.levels.look.Reads as look-reads
+use Rattle.levels.proofs.joined.Reads as joined-reads
+use Rattle.levels.proofs.look.Reads as look-reads
 use Rattle.expr.proofs.+args+body+brace+braces+cmp+cmps+enter+head+index+item+items+lambda+member+pairs+paren+post+posts+rest+round+rule_a+rule_c+rule_e+rule_f+rule_o+rule_p+rule_s+rule_u+set+shown+tee+tuple+value.Proof.Start.{rule-o-at, rule-a-below}
 
 abbrev calls : ℕ → lts.Claims

@@ -1,13 +1,13 @@
 -- `expr::rule_u`, a member of the cycle.
 -- Assumes nothing.
 use Rattle.joint.proofs.Passing.{signs-pass, run-text}
-use Rattle.leaves.specs.Put.{signSet}
+use Rattle.lookahead.specs.Run.{signSet}
 use Rattle.joint.proofs.Loops.{ready-of}
 use Rattle.joint.proofs.Ends.{act-wrapped, signs-then}
 use Rattle.joint.proofs.Chain.{called, not-called, part-then, part-stop, open-plain}
 use Rattle.joint.proofs.Bounds.{after-rule, spares-f}
-use Rattle.leaves.proofs.Tokens.{before-eof}
-use Rattle.leaves.proofs.Tests.{learnt}
+use Rattle.lookahead.proofs.Tokens.{before-eof}
+use Rattle.lookahead.proofs.Tests.{learnt}
 use Rattle.pyhyeon.specs.Tables.{joined, first, firstF, rank, opens}
 use Rattle.pyhyeon.specs.Rules.{plain}
 use mathlib.Core.Path.{refl, sym, _∙_}
@@ -16,11 +16,11 @@ use native.Mathlib.Omega.{arith}
 use Prim.Native.Nat.{ℕ}
 use Rattle.expr.proofs.+args+body+brace+braces+cmp+cmps+enter+head+index+item+items+lambda+member+pairs+paren+post+posts+rest+round+rule_a+rule_c+rule_e+rule_f+rule_o+rule_p+rule_s+rule_u+set+shown+tee+tuple+value.Lts-rule_u as lts
 use Rattle.expr.proofs.rule_u.Reads as reads
-use Rattle.leaves.proofs.skip_signs.Reads as skip-signs-reads
-use Rattle.leaves.proofs.symbol_at.Reads as symbol-at-reads
-use Rattle.leaves.proofs.begins_f.Reads as begins-f-reads
+use Rattle.lookahead.proofs.skip_signs.Reads as skip-signs-reads
+use Rattle.lookahead.proofs.symbol_at.Reads as symbol-at-reads
+use Rattle.lookahead.proofs.begins_f.Reads as begins-f-reads
 use Rattle.expr.proofs.rule_f.Reads as rule-f
-use Rattle.leaves.proofs.wrap.Reads as wrap-reads
+use Rattle.expr_leaves.proofs.wrap.Reads as wrap-reads
 use Rattle.expr.proofs.+args+body+brace+braces+cmp+cmps+enter+head+index+item+items+lambda+member+pairs+paren+post+posts+rest+round+rule_a+rule_c+rule_e+rule_f+rule_o+rule_p+rule_s+rule_u+set+shown+tee+tuple+value.Proof.Start.{rule-u-at, rule-f-below}
 
 abbrev calls : ℕ → lts.Claims

@@ -12,7 +12,7 @@ use Prim.Native.Nat.{ℕ}
 use Rattle.expr.proofs.+args+body+brace+braces+cmp+cmps+enter+head+index+item+items+lambda+member+pairs+paren+post+posts+rest+round+rule_a+rule_c+rule_e+rule_f+rule_o+rule_p+rule_s+rule_u+set+shown+tee+tuple+value.Lts-value as lts
 use Rattle.expr.proofs.value.Reads as reads
 use Rattle.expr.proofs.enter.Reads as enter
-use Rattle.leaves.proofs.put_pair.Reads as put-pair-reads
+use Rattle.expr_leaves.proofs.put_pair.Reads as put-pair-reads
 use Rattle.expr.proofs.+args+body+brace+braces+cmp+cmps+enter+head+index+item+items+lambda+member+pairs+paren+post+posts+rest+round+rule_a+rule_c+rule_e+rule_f+rule_o+rule_p+rule_s+rule_u+set+shown+tee+tuple+value.Proof.Start.{value-at, enter-below}
 
 abbrev calls : ℕ → lts.Claims

@@ -3,8 +3,8 @@
 use Rattle.joint.proofs.Loops.{ready-of}
 use Rattle.joint.proofs.Chain.{tok-then, part-then, part-stop, or-first, or-next, skip-end}
 use Rattle.joint.proofs.Bounds.{after-call, spares-e}
-use Rattle.leaves.proofs.Tokens.{took}
-use Rattle.leaves.proofs.Tests.{learnt}
+use Rattle.lookahead.proofs.Tokens.{took}
+use Rattle.lookahead.proofs.Tests.{learnt}
 use Rattle.pyhyeon.specs.Tables.{first, rank}
 use Rattle.token.specs.Code as code
 use Rattle.grammar.specs.Descent.{null, begins}

@@ -4,8 +4,8 @@ use Rattle.joint.proofs.Loops.{ready-of}
 use Rattle.joint.proofs.Ends.{act-wrote, one-then, changed-then}
 use Rattle.joint.proofs.Chain.{called, part-then, part-stop, flat, or-first, or-next, skip-end}
 use Rattle.joint.proofs.Bounds.{after-rule, spares-e}
-use Rattle.leaves.proofs.Tokens.{before-eof}
-use Rattle.leaves.proofs.Tests.{learnt}
+use Rattle.lookahead.proofs.Tokens.{before-eof}
+use Rattle.lookahead.proofs.Tests.{learnt}
 use Rattle.pyhyeon.specs.Tables.{first, firstE, rank}
 use Rattle.grammar.specs.Descent.{null, begins}
 use mathlib.Core.Path.{refl}

@@ -4,8 +4,8 @@ use Rattle.pyhyeon.specs.Rules.{names}
 use Rattle.joint.proofs.Loops.{ready-of}
 use Rattle.joint.proofs.Ends.{none-last, wrote-then, one-then}
 use Rattle.joint.proofs.Chain.{tok-then, flat, or-first, or-next}
-use Rattle.leaves.proofs.Tokens.{took}
-use Rattle.leaves.proofs.Tests.{learnt}
+use Rattle.lookahead.proofs.Tokens.{took}
+use Rattle.lookahead.proofs.Tests.{learnt}
 use Rattle.grammar.specs.Descent.{null, begins}
 use mathlib.Core.Path.{refl}
 use native.Mathlib.Omega.{arith}

@@ -3,15 +3,15 @@
 use Rattle.expr.specs.Parts.{name}
 use Rattle.grammar.specs.Grammar.{tail}
 use Rattle.token.specs.Code.{Comma}
-use Rattle.leaves.specs.Tokens.{eofAt}
+use Rattle.lookahead.specs.Tokens.{eofAt}
 use Rattle.pyhyeon.specs.Rules.{names, more}
 use Prim.Native.Nat.{ℕ, _-_}
 use Rattle.expr.proofs.Low.{low-names}
 use Rattle.joint.proofs.Loops.{Listing, begin-list, ready-of}
 use Rattle.joint.proofs.Ends.{list-last, wrote-then, one-then, changed-then}
 use Rattle.joint.proofs.Chain.{tok-then, flat, list-on, list-shut, list-end}
-use Rattle.leaves.proofs.Tokens.{took}
-use Rattle.leaves.proofs.Tests.{learnt}
+use Rattle.lookahead.proofs.Tokens.{took}
+use Rattle.lookahead.proofs.Tests.{learnt}
 use Rattle.token.specs.Code as code
 use Rattle.grammar.specs.Descent.{null, begins}
 use mathlib.Core.List.{[], _∷_}

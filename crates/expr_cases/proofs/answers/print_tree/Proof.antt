@@ -1,6 +1,6 @@
 -- `expr_cases::answers::print_tree` is safe: at token 0 the reader of t is ready.
 -- Assumes nothing.
-use Rattle.leaves.specs.Tokens.{textBefore}
+use Rattle.lookahead.specs.Tokens.{textBefore}
 use borrow.Author.Needs.{needs}
 use Rattle.expr_cases.proofs.answers.print_tree.Statement.{statement}
 use Rattle.expr_cases.proofs.answers.print_tree.Tie as tie

@@ -3,15 +3,15 @@
 use mathlib.Core.List.{[], _∷_}
 use Rattle.token.specs.Code as code
 use Rattle.pyhyeon.specs.Tables.{first}
-use Rattle.leaves.proofs.Tests.{learnt}
+use Rattle.lookahead.proofs.Tests.{learnt}
 use Rattle.joint.proofs.Chain.{called, no-call}
 use borrow.Author.Needs.{needs}
 use native.Mathlib.Omega.{arith}
 use Prim.Native.Nat.{ℕ}
 use Rattle.stmt.proofs.+again+block+branch+cond+each+elif+elifs+further+given+guarded+indented+inside+lines+member+method+methods+more+named+other+range+rule_block+rule_class+rule_line+suite.Lts-block as lts
 use Rattle.stmt.proofs.block.Reads as reads
-use Rattle.leaves.proofs.symbol_at.Reads as symbol-at-reads
-use Rattle.leaves.proofs.is_symbol.Reads as is-symbol-reads
+use Rattle.lookahead.proofs.symbol_at.Reads as symbol-at-reads
+use Rattle.lookahead.proofs.is_symbol.Reads as is-symbol-reads
 use Rattle.stmt.proofs.rule_block.Reads as rule-block
 use Rattle.stmt.proofs.+again+block+branch+cond+each+elif+elifs+further+given+guarded+indented+inside+lines+member+method+methods+more+named+other+range+rule_block+rule_class+rule_line+suite.Proof.Start.{block-at, rule-block-below}
 

@@ -2,7 +2,7 @@
 -- Assumes nothing.
 use Rattle.joint.proofs.Ends.{act-wrote, tok-mark}
 use Rattle.joint.proofs.Loops.{ready-of}
-use Rattle.leaves.proofs.Tokens.{took}
+use Rattle.lookahead.proofs.Tokens.{took}
 use Rattle.token.specs.Code as code
 use mathlib.Core.Path.{refl}
 use mathlib.Core.List.{[], _∷_}

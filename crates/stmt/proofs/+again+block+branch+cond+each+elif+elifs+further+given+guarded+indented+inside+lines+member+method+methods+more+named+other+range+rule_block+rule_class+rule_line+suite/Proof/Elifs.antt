@@ -7,8 +7,8 @@ use Rattle.joint.proofs.Loops.{ready-of}
 use Rattle.joint.proofs.Ends.{one-then, none-last}
 use Rattle.joint.proofs.Chain.{flat, flat-then, flat-stop, or-first, or-next}
 use Rattle.joint.proofs.Counts.{came-start, came-node}
-use Rattle.leaves.proofs.Tokens.{before-eof}
-use Rattle.leaves.proofs.Tests.{learnt}
+use Rattle.lookahead.proofs.Tokens.{before-eof}
+use Rattle.lookahead.proofs.Tests.{learnt}
 use Rattle.grammar.specs.Descent.{null, begins}
 use Rattle.token.specs.Code as code
 use mathlib.Core.Path.{refl}
@@ -18,8 +18,8 @@ use native.Mathlib.Omega.{arith}
 use Prim.Native.Nat.{ℕ}
 use Rattle.stmt.proofs.+again+block+branch+cond+each+elif+elifs+further+given+guarded+indented+inside+lines+member+method+methods+more+named+other+range+rule_block+rule_class+rule_line+suite.Lts-elifs as lts
 use Rattle.stmt.proofs.elifs.Reads as reads
-use Rattle.leaves.proofs.symbol_at.Reads as symbol-at-reads
-use Rattle.leaves.proofs.is_symbol.Reads as is-symbol-reads
+use Rattle.lookahead.proofs.symbol_at.Reads as symbol-at-reads
+use Rattle.lookahead.proofs.is_symbol.Reads as is-symbol-reads
 use Rattle.stmt.proofs.elif.Reads as elif
 use Rattle.stmt.proofs.further.Reads as further
 use Rattle.stmt.proofs.+again+block+branch+cond+each+elif+elifs+further+given+guarded+indented+inside+lines+member+method+methods+more+named+other+range+rule_block+rule_class+rule_line+suite.Proof.Start.{elifs-at, elif-below, further-below}

@@ -5,8 +5,8 @@ use Rattle.stmt.specs.Parts.{leading, others}
 use Rattle.joint.proofs.Loops.{Listing, begin-list, lists-node, lists-stop, ready-of}
 use Rattle.joint.proofs.Ends.{one-then, changed-then}
 use Rattle.joint.proofs.Counts.{came-node}
-use Rattle.leaves.proofs.Tests.{learnt}
-use Rattle.leaves.specs.Tokens.{eofAt}
+use Rattle.lookahead.proofs.Tests.{learnt}
+use Rattle.lookahead.specs.Tokens.{eofAt}
 use Prim.Native.Nat.{_-_}
 use mathlib.Core.List.{[], _∷_}
 use borrow.Author.Needs.{needs}
@@ -14,7 +14,7 @@ use native.Mathlib.Omega.{arith}
 use Prim.Native.Nat.{ℕ}
 use Rattle.stmt.proofs.+again+block+branch+cond+each+elif+elifs+further+given+guarded+indented+inside+lines+member+method+methods+more+named+other+range+rule_block+rule_class+rule_line+suite.Lts-further as lts
 use Rattle.stmt.proofs.further.Reads as reads
-use Rattle.leaves.proofs.symbol_at.Reads as symbol-at-reads
+use Rattle.lookahead.proofs.symbol_at.Reads as symbol-at-reads
 use Rattle.stmt.proofs.leads.Reads as leads-reads
 use Rattle.stmt.proofs.member.Reads as member
 use Rattle.leaves.proofs.link.Reads as link-reads

@@ -4,8 +4,8 @@ use mathlib.Core.Path.{refl}
 use mathlib.Core.List.{[], _∷_}
 use Rattle.token.specs.Code as code
 use Rattle.pyhyeon.specs.Tables.{first, rank}
-use Rattle.leaves.proofs.Tests.{learnt}
-use Rattle.leaves.proofs.Tokens.{took}
+use Rattle.lookahead.proofs.Tests.{learnt}
+use Rattle.lookahead.proofs.Tokens.{took}
 use Rattle.joint.proofs.Bounds.{after-list}
 use Rattle.joint.proofs.Chain.{tok-then, tok-not, part-then, part-stop}
 use Rattle.joint.proofs.Ends.{act-wrote}
@@ -19,8 +19,8 @@ use Prim.Native.Nat.{ℕ}
 use Rattle.stmt.proofs.+again+block+branch+cond+each+elif+elifs+further+given+guarded+indented+inside+lines+member+method+methods+more+named+other+range+rule_block+rule_class+rule_line+suite.Lts-given as lts
 use Rattle.stmt.proofs.given.Reads as reads
 use Rattle.expr.proofs.names.Reads as names-reads
-use Rattle.leaves.proofs.symbol_at.Reads as symbol-at-reads
-use Rattle.leaves.proofs.is_symbol.Reads as is-symbol-reads
+use Rattle.lookahead.proofs.symbol_at.Reads as symbol-at-reads
+use Rattle.lookahead.proofs.is_symbol.Reads as is-symbol-reads
 use Rattle.stmt.proofs.block.Reads as block
 use Rattle.stmt_leaves.proofs.put_def.Reads as put-def-reads
 use Rattle.stmt.proofs.+again+block+branch+cond+each+elif+elifs+further+given+guarded+indented+inside+lines+member+method+methods+more+named+other+range+rule_block+rule_class+rule_line+suite.Proof.Start.{given-at, block-below}

@@ -7,8 +7,8 @@ use Rattle.grammar.specs.Sets.{mem}
 use Rattle.grammar.specs.Descent.{null, begins}
 use Rattle.token.specs.Code as code
 use Rattle.pyhyeon.specs.Tables.{first, firstLine}
-use Rattle.leaves.specs.Tokens.{symbolAt}
-use Rattle.leaves.proofs.Tests.{learnt}
+use Rattle.lookahead.specs.Tokens.{symbolAt}
+use Rattle.lookahead.proofs.Tests.{learnt}
 use Rattle.joint.proofs.Chain.{or-first, or-next}
 use Rattle.joint.proofs.Ends.{none-last}
 use Rattle.joint.proofs.Loops.{ready-of}
@@ -19,10 +19,10 @@ use native.Mathlib.Omega.{arith}
 use Prim.Native.Nat.{ℕ}
 use Rattle.stmt.proofs.+again+block+branch+cond+each+elif+elifs+further+given+guarded+indented+inside+lines+member+method+methods+more+named+other+range+rule_block+rule_class+rule_line+suite.Lts-inside as lts
 use Rattle.stmt.proofs.inside.Reads as reads
-use Rattle.stmt_leaves.proofs.skip_newlines.Reads as skip-newlines-reads
+use Rattle.lookahead.proofs.skip_newlines.Reads as skip-newlines-reads
 use Rattle.stmt.proofs.lines.Reads as lines
-use Rattle.leaves.proofs.symbol_at.Reads as symbol-at-reads
-use Rattle.stmt_leaves.proofs.begins_line.Reads as begins-line-reads
+use Rattle.lookahead.proofs.symbol_at.Reads as symbol-at-reads
+use Rattle.lookahead.proofs.begins_line.Reads as begins-line-reads
 use Rattle.stmt.proofs.+again+block+branch+cond+each+elif+elifs+further+given+guarded+indented+inside+lines+member+method+methods+more+named+other+range+rule_block+rule_class+rule_line+suite.Proof.Start.{inside-at, lines-below}
 
 abbrev calls : ℕ → lts.Claims

@@ -5,8 +5,8 @@ use mathlib.Core.List.{[], _∷_}
 use Rattle.token.specs.Code as code
 use Rattle.pyhyeon.specs.Tables.{first, firstLine, rank}
 use Rattle.leaves.specs.Contract.{a-growing}
-use Rattle.leaves.proofs.Tests.{learnt}
-use Rattle.leaves.proofs.Tokens.{before-eof}
+use Rattle.lookahead.proofs.Tests.{learnt}
+use Rattle.lookahead.proofs.Tokens.{before-eof}
 use Rattle.joint.proofs.Chain.{called, no-call, part-then, part-stop}
 use Rattle.joint.proofs.Loops.{ready-of}
 use Rattle.joint.proofs.Passing.{newlines-pass, run-text}
@@ -16,10 +16,10 @@ use native.Mathlib.Omega.{arith}
 use Prim.Native.Nat.{ℕ}
 use Rattle.stmt.proofs.+again+block+branch+cond+each+elif+elifs+further+given+guarded+indented+inside+lines+member+method+methods+more+named+other+range+rule_block+rule_class+rule_line+suite.Lts-lines as lts
 use Rattle.stmt.proofs.lines.Reads as reads
-use Rattle.leaves.proofs.symbol_at.Reads as symbol-at-reads
-use Rattle.stmt_leaves.proofs.begins_line.Reads as begins-line-reads
+use Rattle.lookahead.proofs.symbol_at.Reads as symbol-at-reads
+use Rattle.lookahead.proofs.begins_line.Reads as begins-line-reads
 use Rattle.stmt.proofs.rule_line.Reads as rule-line
-use Rattle.stmt_leaves.proofs.skip_newlines.Reads as skip-newlines-reads
+use Rattle.lookahead.proofs.skip_newlines.Reads as skip-newlines-reads
 use Rattle.stmt.proofs.more.Reads as more
 use Rattle.stmt.proofs.+again+block+branch+cond+each+elif+elifs+further+given+guarded+indented+inside+lines+member+method+methods+more+named+other+range+rule_block+rule_class+rule_line+suite.Proof.Start.{lines-at, rule-line-below, more-below}
 

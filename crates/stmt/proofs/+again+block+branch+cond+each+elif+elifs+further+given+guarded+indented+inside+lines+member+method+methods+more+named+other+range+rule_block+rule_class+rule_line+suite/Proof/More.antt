@@ -9,9 +9,9 @@ use Rattle.token.specs.Code as code
 use Rattle.pyhyeon.specs.Tables.{first, firstLine, rank}
 use Rattle.pyhyeon.specs.Action.{list-done}
 use Rattle.leaves.specs.Contract.{a-list}
-use Rattle.leaves.specs.Tokens.{eofAt}
-use Rattle.leaves.proofs.Tests.{learnt}
-use Rattle.leaves.proofs.Tokens.{before-eof}
+use Rattle.lookahead.specs.Tokens.{eofAt}
+use Rattle.lookahead.proofs.Tests.{learnt}
+use Rattle.lookahead.proofs.Tokens.{before-eof}
 use Rattle.joint.proofs.Chain.{called, part-then, part-stop, many-on, many-end}
 use Rattle.joint.proofs.Ends.{changed-then, list-last}
 use Rattle.joint.proofs.Loops.{Listing, begin-list, ready-of}
@@ -23,10 +23,10 @@ use native.Mathlib.Omega.{arith}
 use Prim.Native.Nat.{ℕ}
 use Rattle.stmt.proofs.+again+block+branch+cond+each+elif+elifs+further+given+guarded+indented+inside+lines+member+method+methods+more+named+other+range+rule_block+rule_class+rule_line+suite.Lts-more as lts
 use Rattle.stmt.proofs.more.Reads as reads
-use Rattle.leaves.proofs.symbol_at.Reads as symbol-at-reads
-use Rattle.stmt_leaves.proofs.begins_line.Reads as begins-line-reads
+use Rattle.lookahead.proofs.symbol_at.Reads as symbol-at-reads
+use Rattle.lookahead.proofs.begins_line.Reads as begins-line-reads
 use Rattle.stmt.proofs.rule_line.Reads as rule-line
-use Rattle.stmt_leaves.proofs.skip_newlines.Reads as skip-newlines-reads
+use Rattle.lookahead.proofs.skip_newlines.Reads as skip-newlines-reads
 use Rattle.leaves.proofs.link.Reads as link-reads
 use Rattle.stmt.proofs.+again+block+branch+cond+each+elif+elifs+further+given+guarded+indented+inside+lines+member+method+methods+more+named+other+range+rule_block+rule_class+rule_line+suite.Proof.Start.{more-at, rule-line-below}
 

@@ -5,8 +5,8 @@ use mathlib.Core.List.{[], _∷_}
 use Rattle.grammar.specs.Descent.{null, begins}
 use Rattle.token.specs.Code as code
 use Rattle.pyhyeon.specs.Tables.{joined, first, opens}
-use Rattle.leaves.proofs.Tests.{learnt}
-use Rattle.leaves.proofs.Tokens.{took}
+use Rattle.lookahead.proofs.Tests.{learnt}
+use Rattle.lookahead.proofs.Tokens.{took}
 use Rattle.joint.proofs.Chain.{tok-then, or-first, or-next, open-deep, open-room}
 use Rattle.joint.proofs.Loops.{ready-of}
 use Rattle.joint.proofs.Passing.{newlines-pass, run-text}
@@ -16,9 +16,9 @@ use native.Mathlib.Omega.{arith}
 use Prim.Native.Nat.{ℕ}
 use Rattle.stmt.proofs.+again+block+branch+cond+each+elif+elifs+further+given+guarded+indented+inside+lines+member+method+methods+more+named+other+range+rule_block+rule_class+rule_line+suite.Lts-rule_block as lts
 use Rattle.stmt.proofs.rule_block.Reads as reads
-use Rattle.leaves.proofs.symbol_at.Reads as symbol-at-reads
-use Rattle.leaves.proofs.is_symbol.Reads as is-symbol-reads
-use Rattle.stmt_leaves.proofs.skip_newlines.Reads as skip-newlines-reads
+use Rattle.lookahead.proofs.symbol_at.Reads as symbol-at-reads
+use Rattle.lookahead.proofs.is_symbol.Reads as is-symbol-reads
+use Rattle.lookahead.proofs.skip_newlines.Reads as skip-newlines-reads
 use Rattle.stmt.proofs.indented.Reads as indented
 use Rattle.simple.proofs.simples.Reads as simples-reads
 use Rattle.stmt.proofs.+again+block+branch+cond+each+elif+elifs+further+given+guarded+indented+inside+lines+member+method+methods+more+named+other+range+rule_block+rule_class+rule_line+suite.Proof.Start.{rule-block-at, indented-below}

@@ -5,8 +5,8 @@ use mathlib.Core.List.{[], _∷_}
 use Rattle.token.specs.Code as code
 use Rattle.pyhyeon.specs.Rules.{plain, names}
 use Rattle.pyhyeon.specs.Tables.{joined, first, opens}
-use Rattle.leaves.proofs.Tests.{learnt}
-use Rattle.leaves.proofs.Tokens.{took}
+use Rattle.lookahead.proofs.Tests.{learnt}
+use Rattle.lookahead.proofs.Tokens.{took}
 use Rattle.joint.proofs.Chain.{tok-not, flat, open-plain}
 use Rattle.joint.proofs.Ends.{tok-mark}
 use Rattle.joint.proofs.Loops.{ready-of}
@@ -16,8 +16,8 @@ use native.Mathlib.Omega.{arith}
 use Prim.Native.Nat.{ℕ}
 use Rattle.stmt.proofs.+again+block+branch+cond+each+elif+elifs+further+given+guarded+indented+inside+lines+member+method+methods+more+named+other+range+rule_block+rule_class+rule_line+suite.Lts-rule_class as lts
 use Rattle.stmt.proofs.rule_class.Reads as reads
-use Rattle.leaves.proofs.symbol_at.Reads as symbol-at-reads
-use Rattle.leaves.proofs.is_name.Reads as is-name-reads
+use Rattle.lookahead.proofs.symbol_at.Reads as symbol-at-reads
+use Rattle.lookahead.proofs.is_name.Reads as is-name-reads
 use Rattle.stmt.proofs.suite.Reads as suite
 use Rattle.stmt.proofs.+again+block+branch+cond+each+elif+elifs+further+given+guarded+indented+inside+lines+member+method+methods+more+named+other+range+rule_block+rule_class+rule_line+suite.Proof.Start.{rule-class-at, suite-below}
 

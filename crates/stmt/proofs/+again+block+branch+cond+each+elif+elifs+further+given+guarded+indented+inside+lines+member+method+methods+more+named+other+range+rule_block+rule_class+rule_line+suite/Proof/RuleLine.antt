@@ -6,8 +6,8 @@ use Rattle.grammar.specs.Descent.{null, begins}
 use Rattle.token.specs.Code as code
 use Rattle.pyhyeon.specs.Rules.{plain}
 use Rattle.pyhyeon.specs.Tables.{joined, first, opens}
-use Rattle.leaves.proofs.Tests.{coded, not-first}
-use Rattle.leaves.proofs.Tokens.{took}
+use Rattle.lookahead.proofs.Tests.{coded, not-first}
+use Rattle.lookahead.proofs.Tokens.{took}
 use Rattle.joint.proofs.Chain.{called, or-first, or-next, alt-first, alt-next, open-plain}
 use Rattle.joint.proofs.Ends.{tok-mark}
 use Rattle.joint.proofs.Loops.{ready-of}
@@ -17,7 +17,7 @@ use native.Mathlib.Omega.{arith}
 use Prim.Native.Nat.{ℕ}
 use Rattle.stmt.proofs.+again+block+branch+cond+each+elif+elifs+further+given+guarded+indented+inside+lines+member+method+methods+more+named+other+range+rule_block+rule_class+rule_line+suite.Lts-rule_line as lts
 use Rattle.stmt.proofs.rule_line.Reads as reads
-use Rattle.leaves.proofs.symbol_at.Reads as symbol-at-reads
+use Rattle.lookahead.proofs.symbol_at.Reads as symbol-at-reads
 use Rattle.stmt.proofs.rule_class.Reads as rule-class
 use Rattle.stmt.proofs.named.Reads as named
 use Rattle.stmt.proofs.cond.Reads as cond

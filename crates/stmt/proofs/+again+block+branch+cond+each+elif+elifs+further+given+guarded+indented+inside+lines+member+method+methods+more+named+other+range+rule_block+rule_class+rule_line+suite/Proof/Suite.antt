@@ -3,8 +3,8 @@
 use mathlib.Core.Path.{refl, sym, _∙_}
 use mathlib.Core.List.{[], _∷_}
 use Rattle.token.specs.Code as code
-use Rattle.leaves.proofs.Tests.{learnt}
-use Rattle.leaves.proofs.Tokens.{took}
+use Rattle.lookahead.proofs.Tests.{learnt}
+use Rattle.lookahead.proofs.Tokens.{took}
 use Rattle.joint.proofs.Chain.{tok-then, tok-not}
 use Rattle.joint.proofs.Passing.{newlines-pass, run-text}
 use Rattle.joint.proofs.Loops.{ready-of}
@@ -14,9 +14,9 @@ use native.Mathlib.Omega.{arith}
 use Prim.Native.Nat.{ℕ}
 use Rattle.stmt.proofs.+again+block+branch+cond+each+elif+elifs+further+given+guarded+indented+inside+lines+member+method+methods+more+named+other+range+rule_block+rule_class+rule_line+suite.Lts-suite as lts
 use Rattle.stmt.proofs.suite.Reads as reads
-use Rattle.leaves.proofs.symbol_at.Reads as symbol-at-reads
-use Rattle.leaves.proofs.is_symbol.Reads as is-symbol-reads
-use Rattle.stmt_leaves.proofs.skip_newlines.Reads as skip-newlines-reads
+use Rattle.lookahead.proofs.symbol_at.Reads as symbol-at-reads
+use Rattle.lookahead.proofs.is_symbol.Reads as is-symbol-reads
+use Rattle.lookahead.proofs.skip_newlines.Reads as skip-newlines-reads
 use Rattle.stmt.proofs.methods.Reads as methods
 use Rattle.stmt.proofs.+again+block+branch+cond+each+elif+elifs+further+given+guarded+indented+inside+lines+member+method+methods+more+named+other+range+rule_block+rule_class+rule_line+suite.Proof.Start.{suite-at, methods-below}
 

@@ -2,7 +2,7 @@
 -- Assumes nothing.
 use mathlib.Core.List.{[], _∷_}
 use Rattle.token.specs.Code as code
-use Rattle.leaves.proofs.Tests.{learnt}
+use Rattle.lookahead.proofs.Tests.{learnt}
 use Rattle.joint.proofs.Ends.{act-wrote}
 use Rattle.joint.proofs.Seen.{see-then, see-not}
 use native.Mathlib.Omega.{arith}

@@ -1,6 +1,6 @@
 -- `stmt::whole::program` meets its contract: Program, from the start.
 -- Assumes nothing.
-use Rattle.leaves.specs.Tokens.{textBefore}
+use Rattle.lookahead.specs.Tokens.{textBefore}
 use borrow.Author.Needs.{needs}
 use Rattle.stmt.proofs.whole.program.Statement.{statement}
 use Rattle.stmt.proofs.whole.program.Tie as tie

@@ -1,0 +1,4 @@
+pub mod Tests
+pub mod Symbols
+pub mod Tokens
+pub mod Runs
