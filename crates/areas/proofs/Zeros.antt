@@ -1,4 +1,4 @@
--- One zero more, the last one, and zeros behind what was filled.
+-- One zero more, and the last one.
 -- Assumes nothing.
 use mathlib.Core.Path.{_≡_, ap}
 use mathlib.Core.List.{List, [], _∷_, _++_, append-nil, append-assoc}
@@ -7,7 +7,7 @@ use native.Mathlib.Numerals.{add-one}
 use native.Mathlib.Omega.{arith}
 use lib.ListN.{length, set, take, drop, replicate, take-append-drop}
 use lib.Seq.{take-suc-set, drop-set-lt}
-use Rattle.areas.specs.Area.{area, zeroed}
+use Rattle.areas.specs.Area.{zeroed}
 
 -- a zero at i: what is left to do makes the same of the list
 pub turn : (i to : ℕ) (l : List ℕ) → i < to → to ≤ length l → zeroed (i + 1) to (set l i 0) ≡ zeroed i to l
@@ -23,8 +23,3 @@ unfolding zeroed
 done i to l e =
     let z : to - i ≡ 0 = omega arith in
     rw (z, append-nil, e) (take-append-drop to l)
-
--- zeros behind what was filled make an area
-pub filled-area : (size : ℕ) (filled before now : List ℕ) → take (length filled) now ≡ filled → drop size now ≡ drop size before → zeroed (length filled) size now ≡ area size filled before
-unfolding zeroed area
-filled-area size filled before now e d = rw (e, d)

@@ -119,14 +119,6 @@ unfolding setNext
 nodes-next tree k m x h l = rw (node-there tree k m h) (unfold nodesOf in (changed tree m 3 (x ∷ []) (omega arith) (linked x (nodeAt tree m)) k h refl l))
 
 -- the tree stays as long as it was
-pub length-put : (tree : List ℕ) (k : ℕ) (n : Node) → length (putNode tree k n) ≡ length tree
-unfolding putNode
-length-put tree k n = length-sets tree (8 * k + 8) (words n)
-
 pub length-span : (tree : List ℕ) (m a b : ℕ) → length (setSpan tree m a b) ≡ length tree
 unfolding setSpan
 length-span tree m a b = length-sets tree (8 * m + 8 + 1) (a ∷ b ∷ [])
-
-pub length-next : (tree : List ℕ) (m x : ℕ) → length (setNext tree m x) ≡ length tree
-unfolding setNext
-length-next tree m x = length-set tree (8 * m + 8 + 3) x

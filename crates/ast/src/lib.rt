@@ -97,16 +97,6 @@ pub fn start_of(tree: &[u32], n: NodeNumber) -> Place
     Place(tree[i + 1])
 }
 
-// Where it ends.
-pub fn end_of(tree: &[u32], n: NodeNumber) -> Place
-    requires { ⌜ 8 * n .0 + 16 ≤ length (now tree) ⌝ }
-    ensures { λ r. ⌜ r .0 ≡ nodeAt (now (tree .entry)) (n .0) .end ⌝ }
-{
-    let k = n.0;
-    let i = 8 * (k as usize) + 8;
-    Place(tree[i + 2])
-}
-
 // Writes the eight words of node n, which is in no list yet.
 pub fn put_node(
     tree: &mut [u32],
