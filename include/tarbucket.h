@@ -158,8 +158,7 @@ enum {
  *   list   the number of the first member or none; the members follow by `next`
  *   name   two fields: where a name starts and ends in the source
  *
- * A field's node has a lower number than the node that holds it, and `next` a higher one. In a chain of comparisons, a<b<c, which is
- * And(a<b, b<c), the node of b is held twice: who walks the tree by its fields comes to it twice. */
+ * In a chain of comparisons, a<b<c, which is And(a<b, b<c), the node of b is held twice: who walks the tree by its fields comes to it twice. */
 enum {
     TARBUCKET_PROGRAM = 1,    /* p list: the lines */
     TARBUCKET_IF = 2,         /* p node: condition; q list: body; r list of Elif; s node?: Else */
