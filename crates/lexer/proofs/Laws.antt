@@ -40,7 +40,7 @@ use Rattle.lexer.proofs.Promise.{Tokens, indent, dedent, raw, eof, prom
 -- ---- the laws of a derivation
 
 -- a raw token is no mark
-raw-code : (s : List ℕ) (start code end : ℕ) → tokenAt s start ≡ Found code end
+pub raw-code : (s : List ℕ) (start code end : ℕ) → tokenAt s start ≡ Found code end
     → (1 ≤ code) × (code ≤ Code.Eof) × (code ≡ Code.Indent → ⊥) × (code ≡ Code.Dedent → ⊥) × (code ≡ Code.Eof → ⊥)
 raw-code s start code end e = let c = token-code s start code end e in go (c .0) (c .1)
   where

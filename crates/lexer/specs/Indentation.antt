@@ -17,7 +17,7 @@ step = 2
 abbrev pub isSpace : ℕ → Bool
 isSpace b = eqb b 32
 
--- the levels are 0, 2, 4 .., so k is one of those up to the top exactly where it is a multiple of the step
+-- the levels are 0, 2, 4 .., so k is one of those up to the top exactly where it is a multiple of the step (the law `by-stack` of the crate lexical)
 abbrev pub isLevel : ℕ → Bool
 isLevel k = eqb (k % step) 0
 
