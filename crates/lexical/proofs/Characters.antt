@@ -1,9 +1,9 @@
 -- The characters of a well-formed list of bytes are characters with its bytes, and the only such; and bytes of characters are well-formed.
 -- Assumes nothing.
-use mathlib.Core.Path.{_≡_, refl, sym, ap, _∙_}
+use mathlib.Core.Path.{_≡_, refl, sym, ap}
 use mathlib.Core.Bool.{Bool, true, false, cond, _&&_, _||_, true≢false}
-use mathlib.Core.List.{List, [], _∷_, _++_, append-assoc}
-use Prim.Native.Nat.{ℕ, zero, suc, _+_, _<_, _≤_, zero-le, suc-le-suc}
+use mathlib.Core.List.{List, [], _∷_, _++_}
+use Prim.Native.Nat.{ℕ, zero, suc, _+_, _<_, _≤_}
 use native.Mathlib.Omega.{arith}
 use lib.Dec.{eqb, leb, ltb}
 use lib.ListN.{length, take, drop, length-append, length-drop, take-append-drop}
@@ -12,8 +12,7 @@ use borrow.Author.Tests.{ltb-true, leb-true, eqb-true, eq-eqb, le-leb}
 use Rattle.source.specs.Bytes.{between}
 use Rattle.source.proofs.Bools.{and-left, and-right, or-either}
 use Rattle.utf8.specs.Table.{Row, rows, fits, lengthBy, sequenceLength, step, firstIllFormed, utf8Error}
-use Rattle.utf8.specs.declared.Utf8.{Utf8}
-use Rattle.utf8.specs.declared.Utf8.the-variants.{WellFormed, IllFormed}
+use Rattle.utf8.specs.declared.Utf8.the-variants.{WellFormed}
 use Rattle.lexical.specs.Characters.{isOf, isCharacter, areCharacters, bytesOf, cut, characters}
 
 -- ---- the sequence at the front of a list is a character

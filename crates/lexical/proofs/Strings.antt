@@ -2,21 +2,21 @@
 -- a quote, a backslash, a line feed or a letter that an escape has.
 -- Assumes nothing.
 use mathlib.Core.Path.{_≡_, refl, sym, ap, _∙_}
-use mathlib.Core.Bool.{Bool, true, false, cond, _&&_, _||_, true≢false}
-use mathlib.Core.List.{List, [], _∷_, _++_, append-assoc, append-nil}
-use Prim.Native.Nat.{ℕ, zero, suc, _+_, _<_, _≤_}
+use mathlib.Core.Bool.{Bool, true, false, cond, _||_}
+use mathlib.Core.List.{List, [], _∷_, _++_, append-nil}
+use Prim.Native.Nat.{ℕ, zero, suc, _+_, _<_}
 use native.Mathlib.Omega.{arith}
 use lib.Dec.{eqb, leb}
-use lib.ListN.{length, length-append}
+use lib.ListN.{length}
 use borrow.Author.Tests.{leb-true, eqb-true, ne-eqb}
 use Rattle.source.proofs.Bools.{and-left, and-right}
 use Rattle.utf8.specs.Table.{utf8Error}
 use Rattle.utf8.specs.declared.Utf8.the-variants.{WellFormed}
 use Rattle.raw_token.specs.Pattern as P
-use Rattle.raw_token.specs.Pattern.{behind, body, isQuote}
+use Rattle.raw_token.specs.Pattern.{behind, body}
 use Rattle.raw_token.proofs.Steps.{behind-zero, behind-behind}
 use Rattle.strings.specs.Decoded as D
-use Rattle.strings.specs.Decoded.{unescape, escape, decodeFrom}
+use Rattle.strings.specs.Decoded.{escape, decodeFrom}
 use Rattle.lexical.specs.Characters.{isCharacter, areCharacters, bytesOf, characters}
 use Rattle.lexical.specs.Strings.{is, closing, string, escaped, decoded}
 use Rattle.lexical.proofs.Characters.{high, Form, one, several, form, whole}

@@ -3,12 +3,19 @@
 -- raw_token and `decoded` of strings. That both come to the same in well-formed UTF-8 is shown in proofs/Strings.antt.
 -- Assumes nothing.
 use Prim.Native.Nat.{ℕ, _+_}
+use mathlib.Core.Path.{_≡_}
 use mathlib.Core.Bool.{Bool, false, cond}
 use mathlib.Core.List.{List, [], _∷_, _++_}
 use lib.Dec.{eqb}
-use lib.ListN.{length}
+use lib.ListN.{length, take, drop}
+use Rattle.source.specs.Bytes.{part}
+use Rattle.utf8.specs.Table.{utf8Error}
+use Rattle.utf8.specs.declared.Utf8.the-variants.{WellFormed}
 use Rattle.raw_token.specs.Pattern.{behind}
+use Rattle.strings.specs.Decoded as D
 use Rattle.strings.specs.Decoded.{escape}
+use Rattle.literal.specs.Literal.{unquoted}
+use Rattle.lexical.specs.Characters.{characters}
 
 -- the character c is the one of ASCII with the number b, which is one byte
 abbrev pub is : ℕ → List ℕ → Bool
@@ -42,3 +49,13 @@ abbrev pub decoded : List (List ℕ) → List ℕ
 decoded [] = []
 decoded (c ∷ []) = c
 decoded (c ∷ d ∷ cs) = cond (is 92 c) (escaped d ++ decoded cs) (c ++ decoded (d ∷ cs))
+
+-- What is so of a String from `at` up to `end` of the source s: what stands before it, from it on, between its quotes and behind it is whole
+-- characters; by these it ends where it does, and stands for the bytes that it does
+pub record ByCharacters (s : List ℕ) (at end : ℕ) : Type 0 where
+  pub before : utf8Error (take at s) ≡ WellFormed
+  pub onward : utf8Error (drop at s) ≡ WellFormed
+  pub between : utf8Error (unquoted (part s at end)) ≡ WellFormed
+  pub after : utf8Error (drop end s) ≡ WellFormed
+  pub end-is : end ≡ at + string (characters (drop at s))
+  pub text-is : D.decoded (unquoted (part s at end)) ≡ decoded (characters (unquoted (part s at end)))
