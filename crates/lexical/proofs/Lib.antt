@@ -1,4 +1,5 @@
 pub mod Characters
+pub mod Boundaries
 pub mod Strings
 pub mod StringTokens
 pub mod StringExamples

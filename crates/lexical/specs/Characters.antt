@@ -12,6 +12,7 @@ abbrev pub isOf : List Row → List ℕ → Bool
 isOf [] c = false
 isOf (row ∷ more) c = (fits row c && eqb (length row) (length c)) || isOf more c
 
+-- a character: one well-formed sequence
 abbrev pub isCharacter : List ℕ → Bool
 isCharacter c = isOf rows c
 
@@ -30,7 +31,7 @@ cut zero l = []
 cut (suc fuel) [] = []
 cut (suc fuel) (b ∷ l) = take (sequenceLength (b ∷ l)) (b ∷ l) ∷ cut fuel (drop (sequenceLength (b ∷ l)) (b ∷ l))
 
--- the characters of a list of bytes, which is well-formed. That these are characters with its bytes, and the only ones, is shown in
+-- the characters of a well-formed list of bytes. That they are characters with its bytes, and that no others have them, is shown in
 -- proofs/Characters.antt (`whole`, `only`)
 unfoldable pub characters : List ℕ → List (List ℕ)
 characters l = cut (length l) l

@@ -1,6 +1,7 @@
 -- A String by characters, as document 01 has it (Raw tokens): "String: same quote at both ends, line feeds allowed, a backslash with any
 -- character but a line feed. Escapes n t r \ " ' are decoded; another keeps its backslash." The scanner's definitions go by bytes: `string` of
--- raw_token and `decoded` of strings. That both come to the same in well-formed UTF-8 is shown in proofs/Strings.antt.
+-- raw_token and `decoded` of strings. That both come to the same in well-formed UTF-8 is shown in proofs/Strings.antt (`string-is`,
+-- `decoded-is`).
 -- Assumes nothing.
 use Prim.Native.Nat.{ℕ, _+_}
 use mathlib.Core.Path.{_≡_}
