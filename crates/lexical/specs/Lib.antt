@@ -1,2 +1,4 @@
+pub mod Characters
+pub mod Strings
 pub mod Stack
 pub mod ByStack

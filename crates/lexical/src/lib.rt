@@ -1,1 +1,2 @@
-// No code: this crate stands for laws of the token list that no contract cites, each beside a second definition of what it is about.
+// No code: this crate stands for laws that hold the scanner's definitions beside document 01's own words: patterns as sets of words, strings by characters,
+// levels as the columns of open Indents.

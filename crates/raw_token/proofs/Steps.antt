@@ -24,12 +24,12 @@ unfolding behind
 behind-some k zero h = absurd (h refl)
 behind-some k (suc n) h = refl
 
-behind-zero : (n : ℕ) → behind 0 n ≡ n
+pub behind-zero : (n : ℕ) → behind 0 n ≡ n
 unfolding behind
 behind-zero zero = refl
 behind-zero (suc n) = zero-add (suc n)
 
-behind-behind : (j k n : ℕ) → behind j (behind k n) ≡ behind (j + k) n
+pub behind-behind : (j k n : ℕ) → behind j (behind k n) ≡ behind (j + k) n
 unfolding behind
 behind-behind j k zero = refl
 behind-behind j k (suc n) = behind-some j (k + suc n) (omega arith) ∙ omega arith

@@ -89,7 +89,8 @@ float = andMaybe (seq (run digit) fraction) exponent
 
 -- What follows an opening quote q, up to and with the closing one: "same quote at both ends, line feeds allowed, a backslash with any character
 -- but a line feed". `escaped` says that the byte before is a backslash that is not escaped itself. Of an escaped character over 127 its first
--- byte is the escaped one, and the others are plain, being neither a quote nor a backslash: the length is the same
+-- byte is the escaped one, and the others are plain, being neither a quote nor a backslash: in well-formed UTF-8 the length is that by characters
+-- (`string-is`, lexical/proofs/Strings.antt)
 abbrev pub body : ℕ → Bool → List ℕ → ℕ
 body q escaped [] = 0
 body q true (b ∷ l) = cond (eqb b 10) 0 (behind 1 (body q false l))
