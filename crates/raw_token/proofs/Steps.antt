@@ -24,7 +24,7 @@ unfolding behind
 behind-some k zero h = absurd (h refl)
 behind-some k (suc n) h = refl
 
-behind-zero : (n : ℕ) → behind 0 n ≡ n
+pub behind-zero : (n : ℕ) → behind 0 n ≡ n
 unfolding behind
 behind-zero zero = refl
 behind-zero (suc n) = zero-add (suc n)
