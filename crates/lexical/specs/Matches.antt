@@ -66,6 +66,7 @@ Float = Digits then Fraction then Optional Exponent
 abbrev pub Name : Words
 Name = Byte beginsName then Many (Byte continuesName)
 
+-- the byte k
 abbrev pub is : ℕ → ℕ → Bool
 is k b = eqb b k
 
