@@ -1,3 +1,8 @@
+pub mod Finds
+pub mod Quoted
+pub mod Patterns
+pub mod Longest
+pub mod Keyword
 pub mod Characters
 pub mod Boundaries
 pub mod Strings

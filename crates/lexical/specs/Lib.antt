@@ -1,3 +1,5 @@
+pub mod Matches
+pub mod Longest
 pub mod Characters
 pub mod Strings
 pub mod Stack

@@ -91,7 +91,7 @@ string-le (q ∷ l) = go (isQuote q)
     go true = omega (arith, behind-le 1 (body q false l), body-le q false l)
     go false = zero-le
 
-len-le : (p : Pattern) → Bounded (len p)
+pub len-le : (p : Pattern) → Bounded (len p)
 len-le (literal w) = literal-le w
 len-le name = name-le
 len-le int = int-le
