@@ -45,16 +45,17 @@ module _ (source : List ℕ) (toks : List Token) where
 
   -- the descent is refused at s
   module _ (m : ℕ) (s : St (machine source toks)) (e : descend pyhyeon depth Program 0 (start source toks) ≡ no m s) where
+    -- as many are left as stand from its number on
     counts : s .kept .at + length (s .rest) ≡ length toks
     unfolding start symbols
     counts = let h = at-no (descend-along level pyhyeon depth Program 0 (start source toks)) e in h .sum ∙ omega (arith, map-length (symbol source) toks)
 
-    -- no rule takes Eof, so the next token is one of these
+    -- no rule takes Eof: where it is among the tokens, one is left
     left : before Eof (symbols source toks) < length toks → 0 < length (s .rest)
     unfolding start meter counted
     left lt = let h = at-no (all.whole pyhyeon prices frugal (meter source toks) depth Program (start source toks) refl refl) e in omega (arith, counts, h .sum)
 
-    -- the tokens, where the next one is t
+    -- the next token is t, between w and v: it is the first that does not fit
     misfit : (w v : List Token) (t : Token) → w ++ (t ∷ v) ≡ toks → length (s .rest) ≡ suc (length v) → fit.Misfit (Accepts source) w t
     unfolding start symbols follow
     misfit w v t e₁ n =
