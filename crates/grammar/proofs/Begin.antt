@@ -85,7 +85,7 @@ module _ {Act : Type 0} {M : Machine Act} where
   unfolding actP
   begins-act a = record { at = λ s. on-ok (none tt refl) }
 
-  begun-seq : {A B : List ℕ} {a b : Bool} {s s₁ s₂ : St M} → Begun A a s s₁ → Begun B b s₁ s₂ → Begun (A ++ only a B) (a && b) s s₂
+  pub begun-seq : {A B : List ℕ} {a b : Bool} {s s₁ s₂ : St M} → Begun A a s s₁ → Begun B b s₁ s₂ → Begun (A ++ only a B) (a && b) s s₂
   begun-seq {B} {a} (by h) k = by (sees-left (only a B) h)
   begun-seq {A} {a} (none t e) (by k) = by (sees-right A (sees-only a t (moved e k)))
   begun-seq {a} {b} (none t e) (none t′ e′) = none (and-i a b t t′) (e ∙ e′)
@@ -94,11 +94,11 @@ module _ {Act : Type 0} {M : Machine Act} where
   unfolding seqP
   begins-seq hp hq = record { at = λ s. on-then (hp .at s) (λ s₁ h. on-map (λ s₂ k. begun-seq h k) (hq .at s₁)) }
 
-  begun-left : {A : List ℕ} {a : Bool} {s s′ : St M} (B : List ℕ) (b : Bool) → Begun A a s s′ → Begun (A ++ B) (a || b) s s′
+  pub begun-left : {A : List ℕ} {a : Bool} {s s′ : St M} (B : List ℕ) (b : Bool) → Begun A a s s′ → Begun (A ++ B) (a || b) s s′
   begun-left B b (by h) = by (sees-left B h)
   begun-left {a} B b (none t e) = none (or-l a b t) e
 
-  begun-right : {B : List ℕ} {b : Bool} {s s′ : St M} (A : List ℕ) (a : Bool) → Begun B b s s′ → Begun (A ++ B) (a || b) s s′
+  pub begun-right : {B : List ℕ} {b : Bool} {s s′ : St M} (A : List ℕ) (a : Bool) → Begun B b s s′ → Begun (A ++ B) (a || b) s s′
   begun-right A a (by h) = by (sees-right A h)
   begun-right {b} A a (none t e) = none (or-r a b t) e
 
@@ -107,7 +107,7 @@ module _ {Act : Type 0} {M : Machine Act} where
   begins-alt {A} {B} {a} {b} {q} hp hq = record { at = λ s. on-else q s (on-map (λ s₁ h. begun-left B b h) (hp .at s)) (on-map (λ s₁ h. begun-right A a h) (hq .at s)) }
 
   -- first no token, and then this
-  begun-after : {A : List ℕ} {a : Bool} {s s₁ s₂ : St M} → Begun A a s s₁ → Begun A true s₁ s₂ → Begun A true s s₂
+  pub begun-after : {A : List ℕ} {a : Bool} {s s₁ s₂ : St M} → Begun A a s s₁ → Begun A true s₁ s₂ → Begun A true s s₂
   begun-after (by h) k = by h
   begun-after (none t e) (by k) = by (moved e k)
   begun-after (none t e) (none t′ e′) = none tt (e ∙ e′)

@@ -81,7 +81,7 @@ module _ {Act : Type 0} {M : Machine Act} where
   twin-act a s = twin-ok {s = record { rest = s .rest; kept = M .run a (s .kept) }} (record { fewer = omega arith })
 
   -- what is repeated: two counts above the number of tokens
-  twin-loop : {t : ℕ} {p p′ : Parser M} (L k k′ : ℕ) → 0 < t → ((s : St M) → length (s .rest) ≤ L → Twin (Less t s) (p s) (p′ s)) →
+  pub twin-loop : {t : ℕ} {p p′ : Parser M} (L k k′ : ℕ) → 0 < t → ((s : St M) → length (s .rest) ≤ L → Twin (Less t s) (p s) (p′ s)) →
       (s : St M) → length (s .rest) ≤ L → length (s .rest) < k → length (s .rest) < k′ → Twin (Less 0 s) (loop p k s) (loop p′ k′ s)
   unfolding loop
   twin-loop L zero k′ pos hp s le lt lt′ = absurd (omega arith)
@@ -102,7 +102,7 @@ module _ {Act : Type 0} {M : Machine Act} where
 
   module _ {R : Type 0} (G : Plan Act R) where
     -- a part, where the rules do so whose tokens and rank stay below B
-    twin-part : {env env′ : R → Parser M} (B : ℕ) → ((r : R) (s : St M) → length (s .rest) * 100 + G .rank r < B → Twin (Less (G .least r) s) (env r s) (env′ r s)) →
+    pub twin-part : {env env′ : R → Parser M} (B : ℕ) → ((r : R) (s : St M) → length (s .rest) * 100 + G .rank r < B → Twin (Less (G .least r) s) (env r s) (env′ r s)) →
         (p : Part Act R) (m : ℕ) (s : St M) → T (low G 100 m p) → length (s .rest) * 100 + m ≤ B → Twin (Less (takes (G .least) p) s) (eval env p s) (eval env′ p s)
     unfolding eval takes low seqP altP
     twin-part B he skip m s t le = twin-skip s

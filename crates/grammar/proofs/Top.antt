@@ -104,7 +104,7 @@ module _ {Act R : Type 0} {plain : R → Part Act R} {G : Plan Act R} {start : R
         ap (λ (env : R → Parser M). eval env (plain r) s) (fun-ext (λ r′. fun-ext (λ s′. same-rule n r′ s′)))
         ∙ ap (λ (p : Parser M). p s) (L .alike (rule (G .body) n) r)
 
-    same-parse : (r : R) (s : St M) → parse plain r s ≡ parse (G .body) r s
+    pub same-parse : (r : R) (s : St M) → parse plain r s ≡ parse (G .body) r s
     unfolding parse
     same-parse r s = same-rule (enough s) r s
 

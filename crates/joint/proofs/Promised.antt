@@ -22,6 +22,9 @@ use Rattle.lexer.proofs.Laws.{tokens-few, text-few, tokens-spanned, tokens-end,
 use Rattle.ast.specs.Words.{tabulate}
 use Rattle.grammar.specs.Limits.{before}
 use Rattle.pyhyeon.specs.Symbol.{Tee, isTee, symbol, symbols}
+use Rattle.pyhyeon.specs.Reading.{Work, Misfit, descent}
+use Rattle.pyhyeon.specs.Earliest.{Earliest}
+use Rattle.pyhyeon.proofs.Earliest.{earliest}
 use Rattle.lookahead.specs.Tokens.{codeAt, startAt, endAt, eofAt, textBefore, tokenOf, tokensOf, Span, Tokens}
 
 -- ---- reading words by number
@@ -121,6 +124,10 @@ module _ (s : List ℕ) (ts : List Token) (bs : List ℕ) where
   tokens-counted e =
       let l = tokens-end s ts bs e in
       ap (λ us. before Eof (symbols s us)) (l .last) ∙ before-last s (length s) (l .once) ∙ omega (arith, front-length l)
+
+  -- Eof is among them, so 14 stands at the start of the script's earliest token that does not fit
+  pub script-earliest : tokenList s ≡ scanned ts bs → (place : ℕ) (w : Work) → descent s ts ≡ Misfit place w → Earliest s ts place
+  script-earliest e place w d = earliest s ts place w (omega (arith, tokens-counted e, front-length (tokens-end s ts bs e))) d
 
   -- and what code may ask of words holds of them
   pub promised : length s ≤ 65536 → tokenList s ≡ scanned ts bs → Tokens s (words ts)

@@ -1,23 +1,21 @@
 -- "A token can begin a rule when some reading of the rule starts with it" (01, Grammar): each token of a rule's table does. For each the checker finds
 -- a reading by the ordered trial, among the shortest rests of statements and expressions. (That a table has every such token is `passes`.)
--- Within a rule no set of tokens is empty; so, as each rule has a reading, no way of the descent is a dead end.
+-- Within a rule no set of tokens is empty. (That no way of the descent is a dead end follows from a test of its own: Late.antt, `finishes`.)
 -- Assumes nothing.
 use Prim.Native.Nat.{ℕ}
 use mathlib.Core.Bool.{Bool, true, false, _&&_, _||_}
 use mathlib.Core.List.{List, [], _∷_, _++_}
 use lib.Dec.{T}
 use Rattle.grammar.specs.Grammar.{Part, skip, act, tok, see, call, _⨾_, _∕_, many, tail}
-use Rattle.grammar.specs.Trial.{Machine, St, Out, ok, fail, out, andThen, orElse, orStay, seqP, altP, loop, manyP, skipP, okIf, takeFrom, takeP, seeP, actP, tailP, eval, rule, enough, parse}
+use Rattle.grammar.specs.Trial.{St, Out, ok, fail, out, andThen, orElse, orStay, seqP, altP, loop, manyP, skipP, okIf, takeFrom, takeP, seeP, actP, tailP, eval, rule, enough, parse}
+use Rattle.grammar.proofs.Reading.{mute}
 use Rattle.token.specs.Code.{In, Def, Pass, Identifier, LParen, RParen, RBracket, RBrace, Colon, Indent, Dedent, Newline, Eof}
 use Rattle.pyhyeon.specs.Action.{Action}
 use Rattle.pyhyeon.specs.Rules.{Rule, Program, Line, Simple, Block, Class, E, O, A, C, S, P, U, F, plain}
 use Rattle.pyhyeon.specs.Tables.{first, joined}
 
 -- nothing is kept: whether a rule fits does not depend on it
-abbrev mute : Machine Action
-mute = record { Kept = Unit {0}; shift = λ c k. k; run = λ a k. k }
-
-abbrev fitted : Out mute → Bool
+abbrev fitted : Out (mute Action) → Bool
 fitted (ok s) = true
 fitted fail = false
 fitted out = false
@@ -41,7 +39,7 @@ rests =
 -- the token and one of these, a Newline and the end: the rule fits
 abbrev some : Rule → ℕ → List (List ℕ) → Bool
 some r c [] = false
-some r c (w ∷ ws) = fitted (parse {M = mute} plain r (record { rest = c ∷ w ++ Newline ∷ Eof ∷ []; kept = tt })) || some r c ws
+some r c (w ∷ ws) = fitted (parse {M = mute Action} plain r (record { rest = c ∷ w ++ Newline ∷ Eof ∷ []; kept = tt })) || some r c ws
 
 abbrev each : Rule → List ℕ → Bool
 each r [] = true

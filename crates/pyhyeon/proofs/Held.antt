@@ -159,5 +159,5 @@ module _ (source : List ℕ) (toks : List Token) where
   act-along class k = write-along 3 _ k
   act-along program k = write-along 1 _ k
 
-  pub keeps : Keeps (machine source toks) Along
-  keeps = record { same = along-same; on = along-on; shifted = λ t k. record { grows = omega arith; held = λ h. h }; acted = act-along }
+  pub keeps : Keeps (machine source toks) (λ s s′. Along (s .kept) (s′ .kept))
+  keeps = record { same = λ s. along-same (s .kept); on = along-on; shifted = λ t l k. record { grows = omega arith; held = λ h. h }; acted = λ a s. act-along a (s .kept) }

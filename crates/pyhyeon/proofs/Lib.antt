@@ -8,3 +8,5 @@ pub mod Held
 pub mod Sorts
 pub mod Starred
 pub mod Samples
+pub mod Late
+pub mod Earliest

@@ -7,3 +7,4 @@ pub mod Prices
 pub mod Reading
 pub mod Sorts
 pub mod Starred
+pub mod Earliest
