@@ -10,8 +10,8 @@ use Rattle.strings.specs.Decoded.{decoded}
 use Rattle.literal.specs.Literal.{lexInteger, lexFloat, lexString}
 use Rattle.raw_token.specs.Pattern as P
 use Rattle.raw_token.specs.Table.{table, tokenAt}
-use Rattle.lexer.specs.Gap.{gapEnd}
-use Rattle.lexer.specs.Indentation.{levelOf, indentationAt}
+use Rattle.spacing.specs.Gap.{gapEnd}
+use Rattle.spacing.specs.Indentation.{levelOf, indentationAt}
 use Rattle.lexer.specs.Value.{valueOf, textOf}
 use Rattle.lexer.specs.Scan.{Scan, indentThen, closed, tokenThen, scanFrom, tokenList}
 

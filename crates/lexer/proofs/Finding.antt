@@ -20,7 +20,7 @@ use Rattle.literal.specs.declared.Lexed.the-variants.{Value, Refused}
 use Rattle.raw_token.specs.Table.{tokenAt}
 use Rattle.raw_token.specs.declared.RawToken.{RawToken}
 use Rattle.raw_token.specs.declared.RawToken.the-variants.{Found}
-use Rattle.lexer.specs.Gap.{gapEnd}
+use Rattle.spacing.specs.Gap.{gapEnd}
 use Rattle.lexer.specs.Value.{valueOf, refusalOf, textOf}
 use Rattle.lexer.specs.Scan.{Scan, refused, lexer, Rest, indentThen, closed, valueThen, foundThen, tokenThen}
 use Rattle.lexer.specs.Steps.{Paid, Exact, none, soFar, takenOf, TurnedWithin, Marks, Turns}

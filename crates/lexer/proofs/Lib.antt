@@ -1,5 +1,3 @@
-pub mod Gaps
-pub mod Levels
 pub mod Writing
 pub mod Turning
 pub mod Values

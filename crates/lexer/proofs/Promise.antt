@@ -21,14 +21,14 @@ use Rattle.raw_token.specs.Table.{tokenAt}
 use Rattle.raw_token.specs.declared.RawToken.{RawToken}
 use Rattle.raw_token.specs.declared.RawToken.the-variants.{Found, NoMatch}
 use Rattle.raw_token.proofs.Within.{token-within}
-use Rattle.lexer.specs.Gap.{gapEnd}
-use Rattle.lexer.specs.Indentation.{step, isLevel, isBlankLine, levelOf, spacesEnd, indentationAt}
+use Rattle.spacing.specs.Gap.{gapEnd}
+use Rattle.spacing.specs.Indentation.{step, isLevel, isBlankLine, levelOf, spacesEnd, indentationAt}
 use Rattle.lexer.specs.Value.{valueOf, textOf}
 use Rattle.lexer.specs.Scan.{Scan, scanned, refused, prepend, mark, lexer, Rest, marksThen, indentThen, closed, valueThen, foundThen, tokenThen, scanFrom, tokenList}
 use Rattle.lexer.specs.declared.Lexer.{Lexer}
-use Rattle.lexer.specs.declared.line.Indentation.{Indentation}
-use Rattle.lexer.specs.declared.line.Indentation.the-variants.{Blank, Level, No}
-use Rattle.lexer.proofs.Levels.{Known, indentation-known}
+use Rattle.spacing.specs.declared.line.Indentation.{Indentation}
+use Rattle.spacing.specs.declared.line.Indentation.the-variants.{Blank, Level, No}
+use Rattle.spacing.proofs.Levels.{Known, indentation-known}
 use Rattle.lexer.proofs.Enough.{Reached, gap-from}
 
 -- The tokens of the source s, Eof last, and their text, where the token before starts at `lo` and ends at `hi`, `depth` levels are open, and

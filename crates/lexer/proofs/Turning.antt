@@ -9,16 +9,16 @@ use native.Mathlib.Omega.{arith}
 use lib.ListN.{length, take, replicate, length-replicate}
 use lib.Seq.{sets}
 use Rattle.token.specs.Code as Code
-use Rattle.lexer.specs.Indentation.{step, indentationAt}
+use Rattle.spacing.specs.Indentation.{step, indentationAt}
 use Rattle.lexer.specs.Scan.{scanned, mark, lexer, Rest, indentThen, closed}
 use Rattle.lexer.specs.Words.{words}
 use Rattle.lexer.specs.Steps.{Paid, Marks, Turns}
 use Rattle.lexer.specs.declared.Lexer.{Lexer}
 use Rattle.lexer.specs.declared.Marked.the-variants as M
 use Rattle.lexer.specs.declared.Turn.the-variants as T
-use Rattle.lexer.specs.declared.line.Indentation.{Indentation}
-use Rattle.lexer.specs.declared.line.Indentation.the-variants.{Blank, Level, No}
-use Rattle.lexer.proofs.Levels.{Known, indentation-known}
+use Rattle.spacing.specs.declared.line.Indentation.{Indentation}
+use Rattle.spacing.specs.declared.line.Indentation.the-variants.{Blank, Level, No}
+use Rattle.spacing.proofs.Levels.{Known, indentation-known}
 use Rattle.lexer.proofs.Writing.{wrote}
 
 -- ---- a line's spaces

@@ -1,5 +1,3 @@
-pub mod Gap
-pub mod Indentation
 pub mod Value
 pub mod Scan
 pub mod Words

@@ -17,12 +17,12 @@ use Rattle.raw_token.specs.declared.RawToken.the-variants.{Found, NoMatch}
 use Rattle.literal.specs.declared.Literal.the-variants as L
 use Rattle.literal.specs.declared.Lexed.{Lexed}
 use Rattle.literal.specs.declared.Lexed.the-variants.{Value, Refused}
-use Rattle.lexer.specs.Gap.{gapEnd}
-use Rattle.lexer.specs.Indentation.{step, indentationAt}
+use Rattle.spacing.specs.Gap.{gapEnd}
+use Rattle.spacing.specs.Indentation.{step, indentationAt}
 use Rattle.lexer.specs.Value.{valueOf, refusalOf, textOf}
 use Rattle.lexer.specs.declared.Lexer.{Lexer}
-use Rattle.lexer.specs.declared.line.Indentation.{Indentation}
-use Rattle.lexer.specs.declared.line.Indentation.the-variants.{Blank, Level, No}
+use Rattle.spacing.specs.declared.line.Indentation.{Indentation}
+use Rattle.spacing.specs.declared.line.Indentation.the-variants.{Blank, Level, No}
 
 -- the tokens, Eof last, and the decoded text; or the number and place of the first refusal
 pub data Scan : Type 0 where

@@ -7,7 +7,7 @@ use lib.ListN.{length, take, replicate}
 use Rattle.areas.specs.Area.{tokenArea}
 use Rattle.literal.specs.declared.Lexed.{Lexed}
 use Rattle.literal.specs.declared.Lexed.the-variants.{Value, Refused}
-use Rattle.lexer.specs.Indentation.{step}
+use Rattle.spacing.specs.Indentation.{step}
 use Rattle.lexer.specs.Scan.{Scan, scanned, refused, Rest, indentThen, tokenList}
 use Rattle.lexer.specs.Words.{words, answerOf, wordsOf, textBytes}
 use Rattle.lexer.specs.declared.Lexer.{Lexer}

@@ -1,9 +1,7 @@
 // The scanner (src/lexer/mod.rs): indentation, skipping, and the token list, written three words a token with the decoded text beside it.
 //
 // Rust's `token_queue` is a number of marks that are written at once, and its `indent_stack` is its top, since the stack reads 0, 2, 4.
-mod line;
 mod put;
-mod skip;
 mod value;
 
 pub use value::literal_of;
@@ -17,8 +15,8 @@ ghost use Rattle.raw_token.specs.declared.RawToken.the-variants as Raw;
 ghost use Rattle.lexer.specs.Scan.{closed, foundThen, indentThen, tokenThen, tokenList};
 ghost use Rattle.lexer.specs.Words.{Room, Scans};
 ghost use Rattle.lexer.specs.Steps.{Exact, Paid, Marks, Turns, Runs, Fills};
-use line::Indentation;
 use raw_token::RawToken;
+use spacing::Indentation;
 use value::Taken;
 
 // The scanner's state: the place reached, 01's flag, the deepest open level, the tokens so far, and the bytes of text so far.
@@ -57,7 +55,7 @@ fn handle_indentation(src: &[u8], tokens: &mut [u32], x: Lexer) -> Marked
     if !x.flag {
         return Marked::On(x);
     }
-    match line::measure(src, x.at, x.top) {
+    match spacing::measure(src, x.at, x.top) {
         Indentation::Blank(end) => Marked::On(Lexer {
             at: end,
             flag: true,
@@ -89,7 +87,7 @@ fn close(tokens: &mut [u32], n: usize, x: Lexer) -> Turn
     requires { ⌜ (n ≤ 65536) × (length (now tokens) ≡ tokenArea n) × Paid n x ⌝ }
     ensures { λ r. ⌜ ((text : List ℕ) → Turns n (λ rest. closed n x) x r (now (tokens .entry)) text (now (tokens .exit)) text) ⌝ }
 {
-    let closing = x.top / line::STEP;
+    let closing = x.top / spacing::STEP;
     let count = x.count + closing;
     put::put_marks(tokens, x.count, closing, token::DEDENT, n, n);
     put::put_token(tokens, count, token::EOF, n, n);
@@ -136,7 +134,7 @@ fn next_token(src: &[u8], tokens: &mut [u32], text: &mut [u8], x: Lexer) -> Turn
     requires { ⌜ Exact (now src) (now tokens) (now text) × Paid (length (now src)) x ⌝ }
     ensures { λ r. ⌜ Turns (length (now (src .entry))) (λ rest. tokenThen (now (src .entry)) rest x) x r (now (tokens .entry)) (now (text .entry)) (now (tokens .exit)) (now (text .exit)) ⌝ }
 {
-    let start = skip::gap_end(src, x.at);
+    let start = spacing::gap_end(src, x.at);
     if src.len() <= start {
         return close(tokens, src.len(), x);
     }

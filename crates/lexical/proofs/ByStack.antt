@@ -19,13 +19,13 @@ use Rattle.literal.specs.declared.Lexed.the-variants.{Value, Refused}
 use Rattle.raw_token.specs.Table.{tokenAt}
 use Rattle.raw_token.specs.declared.RawToken.{RawToken}
 use Rattle.raw_token.specs.declared.RawToken.the-variants.{Found, NoMatch}
-use Rattle.lexer.specs.Gap.{gapEnd}
-use Rattle.lexer.specs.Indentation.{step, isLevel, isBlankLine, levelOf, spacesEnd, indentationAt}
+use Rattle.spacing.specs.Gap.{gapEnd}
+use Rattle.spacing.specs.Indentation.{step, isLevel, isBlankLine, levelOf, spacesEnd, indentationAt}
 use Rattle.lexer.specs.Value.{valueOf, textOf}
 use Rattle.lexer.specs.Scan.{Scan, scanned, refused, prepend, mark, lexer, Rest, marksThen, indentThen, closed, valueThen, foundThen, tokenThen, scanFrom, tokenList}
 use Rattle.lexer.specs.declared.Lexer.{Lexer}
-use Rattle.lexer.specs.declared.line.Indentation.{Indentation}
-use Rattle.lexer.specs.declared.line.Indentation.the-variants.{Blank, Level, No}
+use Rattle.spacing.specs.declared.line.Indentation.{Indentation}
+use Rattle.spacing.specs.declared.line.Indentation.the-variants.{Blank, Level, No}
 use Rattle.lexer.proofs.Laws.{raw-code}
 use Rattle.lexical.specs.Stack.{pushed, opened, levels, among, above, levelAmong, indentationAmong}
 use Rattle.lexical.specs.ByStack.{State, state, Onward, marksOn, indentOn, closedOn, valueOn, foundOn, tokenOn, onFrom, tokenListByStack}

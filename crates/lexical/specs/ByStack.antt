@@ -15,11 +15,11 @@ use Rattle.raw_token.specs.declared.RawToken.{RawToken}
 use Rattle.raw_token.specs.declared.RawToken.the-variants.{Found, NoMatch}
 use Rattle.literal.specs.declared.Lexed.{Lexed}
 use Rattle.literal.specs.declared.Lexed.the-variants.{Value, Refused}
-use Rattle.lexer.specs.Gap.{gapEnd}
+use Rattle.spacing.specs.Gap.{gapEnd}
 use Rattle.lexer.specs.Value.{valueOf, refusalOf, textOf}
 use Rattle.lexer.specs.Scan.{Scan, scanned, refused, mark}
-use Rattle.lexer.specs.declared.line.Indentation.{Indentation}
-use Rattle.lexer.specs.declared.line.Indentation.the-variants.{Blank, Level, No}
+use Rattle.spacing.specs.declared.line.Indentation.{Indentation}
+use Rattle.spacing.specs.declared.line.Indentation.the-variants.{Blank, Level, No}
 use Rattle.lexical.specs.Stack.{levels, above, indentationAmong}
 
 -- what was read so far

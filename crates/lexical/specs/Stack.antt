@@ -8,9 +8,9 @@ use lib.Dec.{eqb, ltb}
 use lib.ListN.{getD, drop}
 use Rattle.token.specs.Code.{Indent, Dedent}
 use Rattle.tokens.specs.Token.{Token}
-use Rattle.lexer.specs.Indentation.{step, isBlankLine, spacesEnd}
-use Rattle.lexer.specs.declared.line.Indentation.{Indentation}
-use Rattle.lexer.specs.declared.line.Indentation.the-variants.{Blank, Level, No}
+use Rattle.spacing.specs.Indentation.{step, isBlankLine, spacesEnd}
+use Rattle.spacing.specs.declared.line.Indentation.{Indentation}
+use Rattle.spacing.specs.declared.line.Indentation.the-variants.{Blank, Level, No}
 
 -- the stack behind a token: an Indent pushes its column, the number of the spaces that it spans; a Dedent closes the innermost
 abbrev pub pushed : List ℕ → Token → List ℕ

@@ -1,4 +1,4 @@
--- What follows of every outcome: its counts are the descent's and within the limits, and it agrees with the trial.
+-- What follows of every outcome: its counts are the descent's and within the limits, it agrees with the trial, and 14 stands at the earliest misfit.
 -- Assumes nothing.
 use mathlib.Core.Path.{_≡_, refl, sym, ap, _∙_, subst}
 use mathlib.Core.Bool.{Bool, true, false, cond, _&&_}
@@ -28,10 +28,10 @@ use Rattle.pyhyeon.specs.Tables.{depth, pyhyeon}
 use Rattle.pyhyeon.specs.Reading.{Descended, Accepted, TooDeep, Misfit, Tried, Fits, Fails, Limited, workOf, start, descended, descent, trial}
 use Rattle.pyhyeon.proofs.Agreement as agreement
 use Rattle.pyhyeon.proofs.Limits.{limits}
-use Rattle.joint.proofs.Promised.{tokens-counted}
+use Rattle.joint.proofs.Promised.{tokens-counted, script-earliest}
 use Rattle.reader.specs.Answer.{numbersOf, written}
 use Rattle.reader.specs.Outcome.{Area, Outcome, treeArea, records, after, untouched, ofDescent, ofScan, ofUtf8, outcome}
-use Rattle.reader.specs.Reads.{refusedBy, nothing, countsOf, countsIn, descentCounts, trialOf, accepts, nodesIn, Reads}
+use Rattle.reader.specs.Reads.{refusedBy, nothing, countsOf, countsIn, descentCounts, trialOf, accepts, nodesIn, EarliestOf, Reads}
 use Rattle.reader.specs.declared.Answer.{Answer}
 use Rattle.reader.specs.declared.Answer.the-variants.{No}
 use Rattle.reader.proofs.Filled.{area-front, area-records, length-records}
@@ -48,6 +48,7 @@ record Follows (src : List ℕ) (x : Scan) (r : Answer) (text tree : Area) : Typ
   count : numbersOf r .number ≡ 0 → numbersOf r .nodes ≡ length (nodesIn (trialOf src x))
   words : numbersOf r .number ≡ 0 → (tree₀ : List ℕ) → take (8 * numbersOf r .nodes) (drop 8 (after tree (treeArea (length src)) tree₀)) ≡ records (nodesIn (trialOf src x))
   decoded : numbersOf r .number ≡ 0 → (text₀ : List ℕ) → take (numbersOf r .text) (after text (length src) text₀) ≡ textBytes x
+  earliest : numbersOf r .number ≡ 14 → EarliestOf src x (numbersOf r .place)
 
 -- a refusal before the descent
 early : (src : List ℕ) (x : Scan) (number place : ℕ) (text tree : Area) → 1 ≤ number → number ≤ 12 → Follows src x (No number place) text tree
@@ -66,6 +67,7 @@ early src x number place text tree least most =
       count = λ e. absurd (omega arith);
       words = λ e. absurd (omega arith);
       decoded = λ e. absurd (omega arith);
+      earliest = λ e. absurd (omega arith);
     }
 
 module _ (src : List ℕ) (ts : List Token) (bs : List ℕ) (is : tokenList src ≡ scanned ts bs) where
@@ -108,6 +110,7 @@ module _ (src : List ℕ) (ts : List Token) (bs : List ℕ) (is : tokenList src 
             area-records (treeArea (length src)) (length src) (w .tokens) (length bs) (length (w .nodes)) (w .openings) (records (w .nodes)) tree₀ (length-records (w .nodes))
             ∙ ap (λ (x : Tried). records (nodesIn x)) (sym t);
         decoded = λ _ text₀. area-front (length src) (length bs) bs text₀ refl;
+        earliest = λ f. absurd (omega arith);
       }
   late (TooDeep place w) e =
       let l = common (TooDeep place w) e in
@@ -122,6 +125,7 @@ module _ (src : List ℕ) (ts : List Token) (bs : List ℕ) (is : tokenList src 
         count = λ f. absurd (omega arith);
         words = λ f. absurd (omega arith);
         decoded = λ f. absurd (omega arith);
+        earliest = λ f. absurd (omega arith);
       }
   late (Misfit place w) e =
       let t : trial src ts ≡ Fails = agreement.refuses src ts place w e in
@@ -137,6 +141,7 @@ module _ (src : List ℕ) (ts : List Token) (bs : List ℕ) (is : tokenList src 
         count = λ f. absurd (omega arith);
         words = λ f. absurd (omega arith);
         decoded = λ f. absurd (omega arith);
+        earliest = λ _. script-earliest src ts bs is place w e;
       }
 
 abbrev Of : List ℕ → Outcome → Type 0
@@ -187,6 +192,7 @@ promised src tokens₀ text₀ tree₀ {o} {r} is e p q s =
         words = ap (λ (l : List ℕ). take (8 * numbersOf r .nodes) (drop 8 l)) s ∙ f .words z tree₀;
         decoded = ap (take (numbersOf r .text)) q ∙ f .decoded z text₀;
       };
+      earliest = f .earliest;
     }
   where
     f : Follows src (tokenList src) r (o .text) (o .tree)

@@ -11,6 +11,7 @@ use Rattle.lexer.specs.Scan.{Scan, scanned, refused, tokenList}
 use Rattle.lexer.specs.Words.{textBytes}
 use Rattle.ast.specs.Node.{Node}
 use Rattle.pyhyeon.specs.Reading.{Work, Tried, Fits, Fails, workOf, descent, trial}
+use Rattle.pyhyeon.specs.Earliest.{Earliest}
 use Rattle.reader.specs.Answer.{numbersOf, written}
 use Rattle.reader.specs.Outcome.{treeArea, records, after, outcome}
 use Rattle.reader.specs.declared.Answer.{Answer}
@@ -54,6 +55,11 @@ abbrev pub nodesIn : Tried → List Node
 nodesIn (Fits ns) = ns
 nodesIn Fails = []
 
+-- the place is the start of the earliest token of the token list that does not fit, by the trial alone
+abbrev pub EarliestOf : List ℕ → Scan → ℕ → Type 0
+EarliestOf src (scanned ts bs) place = Earliest src ts place
+EarliestOf src (refused number at) place = ⊥
+
 -- "Trees are alike when N, all words of the N records and the text are": so many nodes and bytes of text, in these slices, and the trial's
 pub record Alike (src : List ℕ) (nodes bytes : ℕ) (text tree : List ℕ) : Type 0 where
   pub count : nodes ≡ length (nodesIn (trialOf src (tokenList src)))
@@ -85,3 +91,5 @@ pub record Reads (src : List ℕ) (r : Answer) (tokens₀ text₀ tree₀ tokens
   pub exactly : refusedBy 13 (numbersOf r .number) ≡ false → accepts (trialOf src (tokenList src)) ≡ eqb (numbersOf r .number) 0
   -- an accepted tree is the trial's in N, every word of the N records and the text
   pub alike : numbersOf r .number ≡ 0 → Alike src (numbersOf r .nodes) (numbersOf r .text) text tree
+  -- "Then the earliest token: .. 14 does it fit the grammar? (its start; Eof is n)"
+  pub earliest : numbersOf r .number ≡ 14 → EarliestOf src (tokenList src) (numbersOf r .place)

@@ -57,3 +57,9 @@ place s i = go (decLt i (length s))
     go : Dec (i < length s) → (i < length s) ⊎ (length s ≤ i)
     go (yes h) = inl h
     go (no h) = inr (omega arith)
+
+-- a part within the list: its first byte, and the part behind it
+pub part-cons : (s : List ℕ) (at end : ℕ) → at < end → end ≤ length s → part s at end ≡ getD s at 0 ∷ part s (at + 1) end
+part-cons s at end h k =
+    let e : end - at ≡ suc (end - (at + 1)) = omega arith in
+    rw (e, at-cons s at (omega arith))

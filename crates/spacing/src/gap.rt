@@ -2,7 +2,7 @@
 ghost use mathlib.Core.Path.{_≡_};
 ghost use Prim.Native.Nat.{_≤_};
 ghost use lib.ListN.{length};
-ghost use Rattle.lexer.specs.Gap.{gapEnd};
+ghost use Rattle.spacing.specs.Gap.{gapEnd};
 
 // The place behind the blanks and comments at `at`.
 pub fn gap_end(s: &[u8], at: usize) -> usize

@@ -12,9 +12,9 @@ use borrow.Author.Tests.{eq-eqb, ne-eqb, lt-ltb, le-ltb}
 use Rattle.source.proofs.Lists.{run-le}
 use Rattle.source.proofs.Ranges.{NotIn}
 use Rattle.token.specs.Code.{Indent, Dedent}
-use Rattle.lexer.specs.Indentation.{step, isSpace, isBlankLine, levelOf, spacesEnd, indentationAt}
-use Rattle.lexer.specs.declared.line.Indentation.{Indentation}
-use Rattle.lexer.specs.declared.line.Indentation.the-variants.{Blank, Level, No}
+use Rattle.spacing.specs.Indentation.{step, isSpace, isBlankLine, levelOf, spacesEnd, indentationAt}
+use Rattle.spacing.specs.declared.line.Indentation.{Indentation}
+use Rattle.spacing.specs.declared.line.Indentation.the-variants.{Blank, Level, No}
 
 module _ (at end top : ℕ) where
   pub level-same : end - at ≡ top → Level end Dedent 0 top ≡ levelOf at end top

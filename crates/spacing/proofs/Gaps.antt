@@ -8,7 +8,7 @@ use native.Mathlib.Omega.{arith}
 use lib.ListN.{length, getD, drop}
 use borrow.Author.Tests.{eq-eqb, ne-eqb}
 use Rattle.source.proofs.Lists.{at-cons, past}
-use Rattle.lexer.specs.Gap.{isBlank, gap}
+use Rattle.spacing.specs.Gap.{isBlank, gap}
 
 module _ (s : List ℕ) (i : ℕ) (within : i < length s) where
   -- in a comment: it ends before a line feed, and any other byte is its own

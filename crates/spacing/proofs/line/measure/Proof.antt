@@ -1,12 +1,12 @@
--- `lexer::line::measure` meets its contract: the byte behind the spaces decides.
+-- `spacing::line::measure` meets its contract: the byte behind the spaces decides.
 -- Assumes nothing.
 use borrow.Author.Needs.{needs}
 use mathlib.Core.Path.{ap}
 use denote.Ref.{now}
-use Rattle.lexer.proofs.Levels.{measure-tab, measure-blank, measure-level}
-use Rattle.lexer.specs.Indentation.{isBlankLine}
-use Rattle.lexer.proofs.line.measure.Statement.{statement}
-use Rattle.lexer.proofs.line.measure.Tie as tie
+use Rattle.spacing.proofs.Levels.{measure-tab, measure-blank, measure-level}
+use Rattle.spacing.specs.Indentation.{isBlankLine}
+use Rattle.spacing.proofs.line.measure.Statement.{statement}
+use Rattle.spacing.proofs.line.measure.Tie as tie
 
 spaces-end-requires : tie.Need-spaces-end-requires
 spaces-end-requires c κs = search needs

@@ -1,10 +1,10 @@
--- `lexer::line::deeper` meets its contract: one step more, or not.
+-- `spacing::line::deeper` meets its contract: one step more, or not.
 -- Assumes nothing.
 use borrow.Author.Needs.{needs}
 use native.Mathlib.Omega.{arith}
-use Rattle.lexer.proofs.Levels.{level-deeper, level-far}
-use Rattle.lexer.proofs.line.deeper.Statement.{statement}
-use Rattle.lexer.proofs.line.deeper.Tie as tie
+use Rattle.spacing.proofs.Levels.{level-deeper, level-far}
+use Rattle.spacing.proofs.line.deeper.Statement.{statement}
+use Rattle.spacing.proofs.line.deeper.Tie as tie
 
 sub-spaces : tie.Need-sub-spaces
 sub-spaces c = search needs

@@ -1,9 +1,9 @@
--- `lexer::line::level` meets its contract, case by case.
+-- `spacing::line::level` meets its contract, case by case.
 -- Assumes nothing.
 use borrow.Author.Needs.{needs}
-use Rattle.lexer.proofs.Levels.{level-same, level-back, level-between}
-use Rattle.lexer.proofs.line.level.Statement.{statement}
-use Rattle.lexer.proofs.line.level.Tie as tie
+use Rattle.spacing.proofs.Levels.{level-same, level-back, level-between}
+use Rattle.spacing.proofs.line.level.Statement.{statement}
+use Rattle.spacing.proofs.line.level.Tie as tie
 
 sub-spaces : tie.Need-sub-spaces
 sub-spaces c = search needs

@@ -1,14 +1,14 @@
--- `lexer::skip::gap_end` meets its contract. The loop keeps: the gap's end, seen from `at`, is its end seen from i.
+-- `spacing::gap::gap_end` meets its contract. The loop keeps: the gap's end, seen from `at`, is its end seen from i.
 -- Assumes nothing.
 use borrow.Author.Needs.{needs}
 use mathlib.Core.Path.{_≡_, refl, sym, _∙_}
 use Prim.Native.Nat.{_+_, _-_, _≤_}
 use lib.ListN.{length, drop}
 use denote.Ref.{now}
-use Rattle.lexer.specs.Gap.{gap, gapEnd}
-use Rattle.lexer.proofs.Gaps.{in-feed, in-more, out-blank, out-hash, out-other, gap-past}
-use Rattle.lexer.proofs.skip.gap_end.Statement.{statement}
-use Rattle.lexer.proofs.skip.gap_end.Tie as tie
+use Rattle.spacing.specs.Gap.{gap, gapEnd}
+use Rattle.spacing.proofs.Gaps.{in-feed, in-more, out-blank, out-hash, out-other, gap-past}
+use Rattle.spacing.proofs.gap.gap_end.Statement.{statement}
+use Rattle.spacing.proofs.gap.gap_end.Tie as tie
 
 abbrev Inv-loop : tie.InvT-loop
 Inv-loop s at comment₀ i₀ comment i = (at ≤ i) × (i ≤ length s) × (gapEnd s at ≡ i + gap comment (drop i s))

@@ -1,4 +1,4 @@
--- `lexer::line::spaces_end` meets its contract. The loop's invariant: the run's end, seen from `at`, is its end seen from i.
+-- `spacing::line::spaces_end` meets its contract. The loop's invariant: the run's end, seen from `at`, is its end seen from i.
 -- Assumes nothing.
 use borrow.Author.Needs.{needs}
 use borrow.Author.Tests.{eq-eqb, ne-eqb}
@@ -7,9 +7,9 @@ use Prim.Native.Nat.{_-_, _≤_}
 use lib.ListN.{length}
 use denote.Ref.{now}
 use Rattle.source.proofs.Lists.{run-more, run-stop, run-end}
-use Rattle.lexer.specs.Indentation.{isSpace, spacesEnd}
-use Rattle.lexer.proofs.line.spaces_end.Statement.{statement}
-use Rattle.lexer.proofs.line.spaces_end.Tie as tie
+use Rattle.spacing.specs.Indentation.{isSpace, spacesEnd}
+use Rattle.spacing.proofs.line.spaces_end.Statement.{statement}
+use Rattle.spacing.proofs.line.spaces_end.Tie as tie
 
 abbrev Inv-loop : tie.InvT-loop
 Inv-loop s at i₀ i = (at ≤ i) × (i ≤ length s) × (spacesEnd s at ≡ spacesEnd s i)

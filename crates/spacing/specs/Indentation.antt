@@ -7,8 +7,8 @@ use lib.Dec.{eqb, ltb}
 use lib.ListN.{getD, drop}
 use Rattle.source.specs.Bytes.{run}
 use Rattle.token.specs.Code.{Indent, Dedent}
-use Rattle.lexer.specs.declared.line.Indentation.{Indentation}
-use Rattle.lexer.specs.declared.line.Indentation.the-variants.{Blank, Level, No}
+use Rattle.spacing.specs.declared.line.Indentation.{Indentation}
+use Rattle.spacing.specs.declared.line.Indentation.the-variants.{Blank, Level, No}
 
 -- how many spaces one level is more than the one below it: "exactly top + 2"
 abbrev pub step : ℕ

@@ -2,7 +2,7 @@
 ghost use mathlib.Core.Path.{_≡_};
 ghost use Prim.Native.Nat.{_-_, _≤_, _<_, _^_};
 ghost use lib.ListN.{length};
-ghost use Rattle.lexer.specs.Indentation.{spacesEnd, levelOf, indentationAt};
+ghost use Rattle.spacing.specs.Indentation.{spacesEnd, levelOf, indentationAt};
 
 // How many spaces one level is more than the one below it.
 pub const STEP: usize = 2;
