@@ -88,6 +88,7 @@ class Layout:
             if trunk:
                 self.trunks.setdefault(node[0], []).append(node)
         self.keys = sorted(self.lanes)
+        self.widths = {n: self.width(n) for n in self.column}
 
     def width(self, node):
         if isinstance(node, tuple):
@@ -137,7 +138,7 @@ class Layout:
                 w = self.pull(node, other)
                 total, weight = total + w * self.x[other], weight + w
             wanted.append((total / weight, weight))
-        for node, x in zip(lane, spread(wanted, [self.width(n) for n in lane], self.apart(lane), low, high)):
+        for node, x in zip(lane, spread(wanted, [self.widths[n] for n in lane], self.apart(lane), low, high)):
             self.x[node] = round(x * 64) / 64  # sums of such numbers are exact, so every Python draws the same
 
     def cost(self):
@@ -167,7 +168,7 @@ class Layout:
             for key in self.keys:
                 lane = self.lanes[key]
                 for i in range(len(lane)):
-                    for j in range(len(lane)):
+                    for j in [j for j in range(len(lane)) if j != i]:
                         lane.insert(j, lane.pop(i))
                         now = self.cost()
                         if now < best - 0.5:
