@@ -97,20 +97,24 @@ class Map:
                 out += draw.label(EDGE + PAD, top + 4, room, sums, 80, 0, "#9a3412")[0]
         return out
 
+    def runs(self, gap):
+        """The lines in a gap: (upper place, lower place, target), and the heights where each begins, runs across and ends."""
+        links, track, count = self.gaps[gap]
+        upper, lower = self.top[gap + 1] + draw.TALL, self.top[gap]
+        for a, b, target in sorted(links, key=lambda l: (l[2], l[0])):
+            yield a, b, target, upper, upper + (lower - 6 - upper) * (track.get(target, 0) + 1) / (count + 1), lower
+
     def lines(self):
-        out, heads, lands = [], [], map_route.landings(self.layout)
+        out, lands = [], map_route.landings(self.layout)
         for gap in sorted(self.gaps):
-            links, track, count = self.gaps[gap]
-            upper, lower = self.top[gap + 1] + draw.TALL, self.top[gap]
-            for a, b, target in sorted(links, key=lambda l: (l[2], l[0])):
-                across = upper + (lower - 6 - upper) * (track.get(target, 0) + 1) / (count + 1)
+            for a, b, target, upper, across, lower in self.runs(gap):
                 out.append(draw.line(a, upper, b, lower, across, self.colour(target)))
         for node, x in sorted(self.layout.x.items(), key=str):
             if isinstance(node, tuple):
                 out.append(draw.line(x, self.top[node[1]], x, self.top[node[1]] + draw.TALL, 0, self.colour(node[0])))
         for target in sorted({t for _, _, _, t in self.layout.links}):
-            heads.append(draw.arrow(lands[target], self.top[self.boxes[target].row], self.colour(target)))
-        return out + heads
+            out.append(draw.arrow(lands[target], self.top[self.boxes[target].row], self.colour(target)))
+        return out
 
     def drawn(self):
         body = self.grounds() + self.lines()

@@ -74,6 +74,10 @@ def read(root):
     return rooms
 
 
+def folders(root):
+    return sorted(f for f in os.listdir(root) if os.path.isdir(os.path.join(root, f)) and f[0] not in "._")
+
+
 def checked(root, rooms):
     """A need of a library of the kit is dropped. Every folder is in a room, and a crate needs crates of its own or an earlier room."""
     boxes = {b.name: b for r in rooms for b in r.boxes}
@@ -82,10 +86,10 @@ def checked(root, rooms):
         for d in box.deps:
             if boxes[d].room > box.room:
                 stop("crates.txt: %s, of the room '%s', needs %s of the later room '%s'" % (box.name, rooms[box.room].name, d, rooms[boxes[d].room].name))
-    for entry in sorted(os.listdir(root)):
-        if os.path.isdir(os.path.join(root, entry)) and entry[0] not in "._" and entry not in NOT_DRAWN and entry + "/" not in boxes:
+    for entry in folders(root):
+        if entry not in NOT_DRAWN and entry + "/" not in boxes:
             stop("the folder %s/ is in no room of crates.txt: write '# %s/:' where those outside the proof stand" % (entry, entry))
-    for entry in sorted(os.listdir(os.path.join(root, "crates"))):
+    for entry in folders(os.path.join(root, "crates")):
         if entry not in boxes:
             stop("crates.txt does not list crates/%s" % entry)
 

@@ -147,7 +147,7 @@ class Layout:
         total, gaps = 0.0, {}
         for gap, upper, lower, target in self.links:
             a, b = self.x[upper], self.x[lower]
-            free = 1 if isinstance(upper, tuple) else self.width(upper) / 2 - 12  # a line leaves a box anywhere in its width
+            free = 4 if isinstance(upper, tuple) else self.width(upper) / 2 - 12  # a line leaves a box anywhere in its width
             total += abs(a - b) / 2 + (30 if abs(a - b) > free else 0)
             gaps.setdefault(gap, []).append((a, b, target))
         for lines in gaps.values():
@@ -162,31 +162,56 @@ class Layout:
             for key in self.keys:
                 mean = {n: sum(self.x[o] for o in self.near[n]) / len(self.near[n]) if n in self.near else self.x[n] for n in self.lanes[key]}
                 self.lanes[key].sort(key=lambda n: round(mean[n], 3))
-        best, better = self.cost(), True
-        while better:
-            better = False
+        best, before = self.cost(), None
+        while best != before:
+            before = best
             for key in self.keys:
-                lane = self.lanes[key]
-                for i in range(len(lane)):
-                    for j in [j for j in range(len(lane)) if j != i]:
-                        lane.insert(j, lane.pop(i))
-                        now = self.cost()
-                        if now < best - 0.5:
-                            best, better = now, True
-                        else:
-                            lane.insert(i, lane.pop(j))
+                best = self.exchange(key, best)
+            best = self.untwine(best)
         self.place(400)
         self.align()
 
+    def exchange(self, key, best):
+        """Moves each node of a row to each other place in it, and leaves it where the cost is least."""
+        lane = self.lanes[key]
+        for i in range(len(lane)):
+            for j in [j for j in range(len(lane)) if j != i]:
+                lane.insert(j, lane.pop(i))
+                now = self.cost()
+                if now < best - 0.5:
+                    best = now
+                else:
+                    lane.insert(i, lane.pop(j))
+        return best
+
+    def untwine(self, best):
+        """Puts one of two trunks to the left of the other in every row that both pass, if that is better: by single rows it would first be worse."""
+        for left in self.trunks:
+            for right in self.trunks:
+                kept = {k: list(lane) for k, lane in self.lanes.items() if (left, k[0]) in lane and (right, k[0]) in lane}
+                for key in kept if left != right else []:
+                    lane = self.lanes[key]
+                    i, j = lane.index((left, key[0])), lane.index((right, key[0]))
+                    if i > j:
+                        lane[i], lane[j] = lane[j], lane[i]
+                if any(self.lanes[k] != lane for k, lane in kept.items()):
+                    now = self.cost()
+                    if now < best - 0.5:
+                        best = now
+                    else:
+                        self.lanes.update(kept)
+        return best
+
     def align(self):
-        """Whole numbers, a trunk that is straight but for a little made straight, and boxes that stand nearly above another put right above it."""
+        """Whole numbers, a trunk that is straight but for a little made straight, and boxes that stand nearly above one another put right above."""
         for nodes in self.trunks.values():
             middle = round(sum(self.x[n] for n in nodes) / len(nodes))
             if all(abs(self.x[n] - middle) < 3 for n in nodes):
                 self.x.update({n: middle for n in nodes})
         self.x = {n: round(x) for n, x in self.x.items()}
-        for key in self.keys:
-            for node in self.lanes[key]:
-                close = [self.x[o] for o in self.near.get(node, []) if o in self.boxes and self.boxes[o].row < key[0] and abs(self.x[o] - self.x[node]) < 7]
-                if node in self.boxes and close:
-                    self.x[node] = close[0]
+        first = None
+        for box in sorted(self.boxes, key=lambda n: (self.column[n], self.x[n], n)):
+            if first and self.column[first] == self.column[box] and self.x[box] - self.x[first] < 9:
+                self.x[box] = self.x[first]
+            else:
+                first = box

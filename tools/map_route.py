@@ -65,7 +65,7 @@ def gaps(layout):
     leave, found = ports(layout, below), {}
     for gap, upper, lower, target in layout.links:
         a, b = leave[upper, target], below[lower]
-        if abs(a - b) < 1.5:
+        if abs(a - b) < (1.5 if isinstance(upper, tuple) else 5):  # straight but for a little
             a = b
         found.setdefault(gap, []).append((a, b, target))
     out = {}

@@ -2,7 +2,7 @@
 # Tests the repository's own tools: the map is that of today, the table of the gate's time is right for a stored log, and the makers of the stored cases
 # make them again. Each check that can fail is shown to fail. It wants Python 3.10 or newer, and nothing else.
 #
-#     tools/test.sh        under a minute
+#     tools/test.sh        in about half a minute
 #     tools/test.sh all    makes the cases of reader_cases again too, which takes as long again
 set -u
 cd "$(dirname "$0")/.." || exit 2
@@ -42,6 +42,7 @@ no() { # NAME WORDS COMMAND ..
 
 # ---- the map, and copies of the repository in which it is not true
 yes "docs/map.svg is the map of today" python3 tools/map.py --check
+yes "no line of it runs through a box" python3 tools/map_faults.py
 
 copy=$work/copy
 begin() {
@@ -83,6 +84,14 @@ no "a cycle is refused" "in a cycle through token" python3 "$copy/tools/map.py"
 begin
 mkdir "$copy/unlisted"
 no "a folder in no room" "the folder unlisted/ is in no room of crates.txt" python3 "$copy/tools/map.py"
+begin
+mkdir -p "$copy/crates/later/src"
+echo '// No code.' >"$copy/crates/later/src/lib.rt"
+yes "a crate more" change crates.txt 's/^lexer: .*/&\
+later: lexer utf8/'
+yes "a crate more is drawn" python3 "$copy/tools/map.py"
+yes "by its name" grep -q '>later</text>' "$copy/docs/map.svg"
+yes "and no line runs through a box" python3 "$copy/tools/map_faults.py"
 
 # ---- the table of the gate's time
 data=tools/testdata
@@ -91,7 +100,10 @@ timed() { # LOG ..
 }
 between() { sed -n '/^<!-- gate times: begin/,/^<!-- gate times: end/p' "$work/page.md" | sed '1d;$d'; }
 same_table() { timed "$1" >"$work/table.md" && diff "$data/gate.md" "$work/table.md"; }
-written() { timed "$1" --write && between | diff "$data/gate.md" - && [ "$(grep -c '^## Where' "$work/page.md")" = 1 ] && head -n 1 "$work/page.md" | grep -qx '# A page'; }
+written() {
+    timed "$1" --write && between | diff "$data/gate.md" - || return 1
+    head -n 1 "$work/page.md" | grep -qx '# A page' && [ "$(grep -c "^## Where the gate's time goes" "$work/page.md")" = 1 ]
+}
 echo '# A page' >"$work/page.md"
 yes "the table of a stored log" same_table "$data/gate.log"
 yes "it is written at a page's end" written "$data/gate.log"
