@@ -1,0 +1,129 @@
+#!/bin/sh
+# Tests the repository's own tools: the map is that of today, the table of the gate's time is right for a stored log, and the makers of the stored cases
+# make them again. Each check that can fail is shown to fail. It wants Python 3.10 or newer, and nothing else.
+#
+#     tools/test.sh        in about half a minute
+#     tools/test.sh all    makes the cases of reader_cases again too, which takes as long again
+set -u
+cd "$(dirname "$0")/.." || exit 2
+export PYTHONDONTWRITEBYTECODE=1
+work=$(mktemp -d)
+trap 'rm -rf "$work"' EXIT
+passed=0
+failed=0
+
+# The command succeeds; what it says is shown where it does not.
+yes() { # NAME COMMAND ..
+    name=$1
+    shift
+    if "$@" >"$work/said" 2>&1; then
+        passed=$((passed + 1))
+    else
+        failed=$((failed + 1))
+        echo "FAILED: $name"
+        sed 's/^/    /' "$work/said"
+    fi
+}
+
+# The command ends with status 1 and says this.
+no() { # NAME WORDS COMMAND ..
+    name=$1 words=$2
+    shift 2
+    "$@" >"$work/said" 2>&1
+    status=$?
+    if [ "$status" -eq 1 ] && grep -qF -- "$words" "$work/said"; then
+        passed=$((passed + 1))
+    else
+        failed=$((failed + 1))
+        echo "FAILED: $name: status $status, and not: $words"
+        sed 's/^/    /' "$work/said"
+    fi
+}
+
+# ---- the map, and copies of the repository in which it is not true
+yes "docs/map.svg is the map of today" python3 tools/map.py --check
+yes "no line of it runs through a box" python3 tools/map_faults.py
+
+copy=$work/copy
+begin() {
+    rm -rf "$copy"
+    mkdir -p "$copy/crates"
+    cp -R tools docs crates.txt "$copy"
+    for folder in */; do
+        case $folder in crates/ | tools/ | docs/ | target/) ;; *) mkdir "$copy/$folder" ;; esac
+    done
+    for crate in crates/*/; do
+        ln -s "$PWD/$crate" "$copy/${crate%/}"
+    done
+}
+change() { # FILE SED
+    sed "$2" "$copy/$1" >"$work/changed" && ! cmp -s "$work/changed" "$copy/$1" && cat "$work/changed" >"$copy/$1"
+}
+stale='docs/map.svg is not what tools/map.py draws now'
+begin
+yes "a copy has the same map" python3 "$copy/tools/map.py" --check
+yes "a need more" change crates.txt 's/^printing: .*/& utf8/'
+no "a need more is seen" "$stale" python3 "$copy/tools/map.py" --check
+begin
+yes "a room's other name" change crates.txt 's/^## Scanner/## The scanner/'
+no "a room's other name is seen" "$stale" python3 "$copy/tools/map.py" --check
+begin
+rm "$copy/crates/token"
+cp -R crates/token "$copy/crates"
+echo '// one line more' >>"$copy/crates/token/src/lib.rt"
+no "a line more is seen" "$stale" python3 "$copy/tools/map.py" --check
+begin
+mkdir -p "$copy/crates/unlisted/src"
+no "a crate that is not listed" "crates.txt does not list crates/unlisted" python3 "$copy/tools/map.py" --check
+begin
+yes "a need upward" change crates.txt 's/^utf8: .*/& reader/'
+no "a need upward is refused" "utf8, of the room 'Scanner', needs reader of the later room" python3 "$copy/tools/map.py"
+begin
+yes "a cycle" change crates.txt 's/^token:.*/token: lexer/'
+no "a cycle is refused" "in a cycle through token" python3 "$copy/tools/map.py"
+begin
+mkdir "$copy/unlisted"
+no "a folder in no room" "the folder unlisted/ is in no room of crates.txt" python3 "$copy/tools/map.py"
+begin
+mkdir -p "$copy/crates/later/src"
+echo '// No code.' >"$copy/crates/later/src/lib.rt"
+yes "a crate more" change crates.txt 's/^lexer: .*/&\
+later: lexer utf8/'
+yes "a crate more is drawn" python3 "$copy/tools/map.py"
+yes "by its name" grep -q '>later</text>' "$copy/docs/map.svg"
+yes "and no line runs through a box" python3 "$copy/tools/map_faults.py"
+
+# ---- the table of the gate's time
+data=tools/testdata
+timed() { # LOG ..
+    python3 tools/gate_times.py "$@" --crates "$data/gate_crates.txt" --page "$work/page.md"
+}
+between() { sed -n '/^<!-- gate times: begin/,/^<!-- gate times: end/p' "$work/page.md" | sed '1d;$d'; }
+same_table() { timed "$1" >"$work/table.md" && diff "$data/gate.md" "$work/table.md"; }
+written() {
+    timed "$1" --write && between | diff "$data/gate.md" - || return 1
+    head -n 1 "$work/page.md" | grep -qx '# A page' && [ "$(grep -c "^## Where the gate's time goes" "$work/page.md")" = 1 ]
+}
+echo '# A page' >"$work/page.md"
+yes "the table of a stored log" same_table "$data/gate.log"
+yes "it is written at a page's end" written "$data/gate.log"
+yes "and then in its own place" written "$data/gate.log"
+sed '$d' "$data/gate.log" >"$work/cut.log"
+no "a log that is cut" "its last line is not" timed "$work/cut.log" --write
+sed 's/, 0 failed/, 2 failed/' "$data/gate.log" >"$work/red.log"
+no "a gate that failed" "2 failed" timed "$work/red.log" --write
+grep -v 'nothing_zeroed' "$data/gate.log" >"$work/lost.log"
+no "an edit's line that is lost" "14 passed, and 13 were found" timed "$work/lost.log" --write
+yes "a refusal leaves the page" written "$data/gate.log"
+
+# ---- the stored cases, made again
+again() { # CRATE
+    mkdir -p "$work/$1/data" && python3 "tools/$1.py" "$work/$1" || return 1
+    (cd "$work/$1" && find . -type f) | while IFS= read -r file; do cmp "$work/$1/$file" "crates/$1/$file" || exit 1; done
+}
+for crate in leaf_cases scan_cases expr_cases ${1:+reader_cases}; do
+    yes "the cases of $crate" again "$crate"
+done
+
+echo "$passed passed, $failed failed"
+[ "$failed" -eq 0 ]
