@@ -2,7 +2,6 @@
 -- Assumes nothing.
 use Prim.Native.Nat.{ℕ}
 use mathlib.Core.Bool.{Bool, true, false}
-use mathlib.Core.List.{List, [], _∷_}
 use Rattle.grammar.specs.Grammar.{Part, skip, act, tok, call, _⨾_, _∕_, many, tail}
 use Rattle.token.specs.Code.{LBrace, RBrace, RParen, RBracket, Colon, Comma}
 use Rattle.ast.specs.Kind as kind

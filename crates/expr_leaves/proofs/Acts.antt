@@ -14,7 +14,7 @@ use Rattle.ast.specs.Literal.{leafOf, literalNode}
 use Rattle.ast.specs.Operator.{unaryOp, binaryOp}
 use Rattle.ast.specs.Words.{nodeAt}
 use Rattle.ast.proofs.Nodes.{length-nodes, nodes-put}
-use Rattle.pyhyeon.specs.Machine.{Value, token, node, growing, list, number, write}
+use Rattle.pyhyeon.specs.Machine.{token, node, growing, list, number, write}
 use Rattle.pyhyeon.specs.Action.{named, binary, enclose, empty, tuple, pair, attribute, apply, index, lambda, perform}
 use Rattle.lookahead.specs.Tokens.{codeAt, startAt, endAt, textBefore, tokenOf}
 use Rattle.lookahead.proofs.Tokens.{token-is}

@@ -7,7 +7,7 @@ use mathlib.Core.Bool.{Bool, true, false, _&&_, _||_}
 use mathlib.Core.List.{List, [], _∷_, _++_}
 use lib.Dec.{T}
 use Rattle.grammar.specs.Grammar.{Part, skip, act, tok, see, call, _⨾_, _∕_, many, tail}
-use Rattle.grammar.specs.Trial.{St, Out, ok, fail, out, andThen, orElse, orStay, seqP, altP, loop, manyP, skipP, okIf, takeFrom, takeP, seeP, actP, tailP, eval, rule, enough, parse}
+use Rattle.grammar.specs.Trial.{Out, ok, fail, out, andThen, orElse, orStay, seqP, altP, loop, manyP, skipP, okIf, takeFrom, takeP, seeP, actP, tailP, eval, rule, enough, parse}
 use Rattle.grammar.proofs.Reading.{mute}
 use Rattle.token.specs.Code.{In, Def, Pass, Identifier, LParen, RParen, RBracket, RBrace, Colon, Indent, Dedent, Newline, Eof}
 use Rattle.pyhyeon.specs.Action.{Action}

@@ -2,7 +2,7 @@
 -- This is what code cites after a call, to read or link the node that it was handed.
 -- Assumes nothing.
 use mathlib.Core.List.{List, [], _∷_}
-use Prim.Native.Nat.{ℕ, zero, suc, _+_, _≤_, _<_}
+use Prim.Native.Nat.{ℕ, zero, suc, _≤_, _<_}
 use native.Mathlib.Omega.{arith}
 use lib.ListN.{length, getD, set, drop, length-set, length-append}
 use Rattle.grammar.proofs.Along.{Keeps}

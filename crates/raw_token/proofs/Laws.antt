@@ -1,5 +1,5 @@
--- What a found token is: an entry of the table with its code matches there. The scanner's proofs cite these laws, `token-within` of
--- proofs/Within.antt and `past-end` of proofs/First.antt.
+-- What a found token is: an entry of the table with its code matches there. The scanner's proofs and the crate lexical cite these laws, and `token-within`
+-- of proofs/Within.antt; `int-token`, `float-token` and `newline-token` are promises to people (docs/SENTENCES.md).
 -- Assumes nothing.
 use mathlib.Core.Path.{_≡_, refl, sym, ap, _∙_}
 use mathlib.Core.Bool.{Bool, true, false, cond, not, _&&_, _||_, true≢false}
@@ -33,10 +33,10 @@ record Match (t : ℕ → Pattern → Bool) (l : List ℕ) (best : ℕ × ℕ) :
   holds : t (best .0) pattern ≡ true
   is : best .1 ≡ len pattern l
 
-longest-match : (t : ℕ → Pattern → Bool) (es : List Entry) (best : ℕ × ℕ) (l : List ℕ) → all t es ≡ true → (best .1 ≡ 0) ⊎ Match t l best → (longest best es l .1 ≡ 0) ⊎ Match t l (longest best es l)
-longest-match t [] best l a m = m
-longest-match t (e ∷ es) best l a m =
-    longest-match t es (longer best (e .0) (len (e .1) l)) l (and-right (t (e .0) (e .1)) (all t es) a) (go (ltb (best .1) (len (e .1) l)))
+best-match : (t : ℕ → Pattern → Bool) (es : List Entry) (best : ℕ × ℕ) (l : List ℕ) → all t es ≡ true → (best .1 ≡ 0) ⊎ Match t l best → (longest best es l .1 ≡ 0) ⊎ Match t l (longest best es l)
+best-match t [] best l a m = m
+best-match t (e ∷ es) best l a m =
+    best-match t es (longer best (e .0) (len (e .1) l)) l (and-right (t (e .0) (e .1)) (all t es) a) (go (ltb (best .1) (len (e .1) l)))
   where
     go : (u : Bool) → (cond {A = ℕ × ℕ} u (e .0, len (e .1) l) best .1 ≡ 0) ⊎ Match t l (cond u (e .0, len (e .1) l) best)
     go true = inr (record { pattern = e .1; holds = and-left (t (e .0) (e .1)) (all t es) a; is = refl })
@@ -61,7 +61,7 @@ pub matched : (t : ℕ → Pattern → Bool) → all t table ≡ true → (s : L
 unfolding tokenAt
 matched t a s at code end e =
     let best = longest (0, 0) table (drop at s) in
-    go best (longest-match t table (0, 0) (drop at s) a (inl refl)) (found-best at best code end e) (token-within s at code end e)
+    go best (best-match t table (0, 0) (drop at s) a (inl refl)) (found-best at best code end e) (token-within s at code end e)
   where
     go : (best : ℕ × ℕ) → (best .1 ≡ 0) ⊎ Match t (drop at s) best → Best at best code end → (at < end) × (end ≤ length s) → Matched t s at code end
     go best (inl z) b w = let k = b .some in absurd (omega arith)

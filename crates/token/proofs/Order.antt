@@ -1,4 +1,4 @@
--- The codes are the positions in `Token`, counted from 1.
+-- The codes are the positions in `Token`, counted from 1: a promise to people (docs/SENTENCES.md).
 -- Assumes nothing.
 use mathlib.Core.Path.{_≡_, refl}
 use mathlib.Core.List.{List, [], _∷_}

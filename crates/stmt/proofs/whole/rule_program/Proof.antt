@@ -5,7 +5,6 @@ use mathlib.Core.List.{[], _∷_}
 use Rattle.grammar.specs.Descent.{null, begins}
 use Rattle.token.specs.Code as code
 use Rattle.pyhyeon.specs.Tables.{joined, first, firstLine, opens}
-use Rattle.lookahead.specs.Tokens.{textBefore}
 use Rattle.lookahead.proofs.Tests.{learnt}
 use Rattle.joint.proofs.Chain.{open-plain, alt-first, alt-next, flat-then, flat-stop}
 use Rattle.joint.proofs.Ends.{none-then}
