@@ -47,8 +47,8 @@ fn read(src: &[u8], out: &mut [u8]) -> usize
     print(answer, &tree, out)
 }
 
-// Writes what the program prints for the script of n bytes at the front, and answers how many bytes that are. The script's array has one byte more
-// than is taken, so that a caller can't cut a longer input to one that is short enough.
+// Writes what the program prints for the script of n bytes at the front, and answers how many bytes that are. The array has one byte more than is
+// taken, so that n can say that the script is longer.
 pub fn list(script: &[u8; MOST + 1], n: usize, out: &mut [u8; ROOM]) -> usize
     requires { ⌜ n ≤ 1024 ⌝ }
     ensures { λ r. ⌜ Shows (listing (take n (now (script .entry)))) (now (out .entry)) (now (out .exit)) r ⌝ }
