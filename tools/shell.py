@@ -65,6 +65,8 @@ def run(program, stdin, feeding=None, stdout=None, **options):
             if feeding:
                 feeding(process)
             status = process.wait(LIMIT)
+        except subprocess.TimeoutExpired:
+            status = "it does not end"
         finally:
             process.kill()
         out.seek(0)

@@ -12,12 +12,13 @@ use Rattle.printing.specs.Printed.{printedNo}
 use Rattle.listing.specs.Listing.{listing}
 use Rattle.shell.specs.Input.{bytes, Input, front, longer, heard, shown}
 
--- chunks of at least one byte, each handed over by a read, and a read at the end
+-- chunks of at least one byte
 abbrev Some : List (List ℕ) → Type 0
 Some [] = Unit {0}
 Some ([] ∷ cs) = ⊥
 Some ((x ∷ xs) ∷ cs) = Some cs
 
+-- each is handed over by a read, and one read more sees the end
 abbrev heard-all : Input → List (List ℕ) → Input
 heard-all i [] = heard i (bytes [])
 heard-all i (c ∷ cs) = heard-all (heard i (bytes c)) cs
