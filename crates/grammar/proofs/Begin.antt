@@ -117,9 +117,6 @@ module _ {Act : Type 0} {M : Machine Act} where
   loop-at hp zero s = on-out
   loop-at hp (suc k) s = on-stay s (hp .at s) (λ s₁ h. on-map (λ s₂ h′. begun-after h h′) (loop-at hp k s₁)) (none tt refl)
 
-  pub begins-loop : {A : List ℕ} {a : Bool} {p : Parser M} (k : ℕ) → Begins A a p → Begins A true (loop p k)
-  begins-loop k hp = record { at = loop-at hp k }
-
   begins-many : {A : List ℕ} {a : Bool} {p : Parser M} → Begins A a p → Begins A true (manyP p)
   unfolding manyP
   begins-many hp = record { at = λ s. loop-at hp (suc (length (s .rest))) s }

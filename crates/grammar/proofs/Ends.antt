@@ -34,9 +34,6 @@ module _ {Act : Type 0} {M : Machine Act} where
   pub at-no : {P Q : ℕ → St M → Type 0} {x : Answer M} {n : ℕ} {s : St M} → Ends P Q x → x ≡ no n s → Q n s
   at-no {P} {Q} h e = of-no (subst (Ends P Q) e h)
 
-  pub at-deep : {P Q : ℕ → St M → Type 0} {x : Answer M} {n : ℕ} {s : St M} → Ends P Q x → x ≡ deep n s → Q n s
-  at-deep {P} {Q} h e = of-deep (subst (Ends P Q) e h)
-
   -- two facts at once
   pub ends-both : {P P′ Q Q′ : ℕ → St M → Type 0} {x : Answer M} → Ends P Q x → Ends P′ Q′ x → Ends (λ n s. P n s × P′ n s) (λ n s. Q n s × Q′ n s) x
   ends-both (ends-done h) k = ends-done (h, of-done k)

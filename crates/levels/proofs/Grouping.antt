@@ -32,7 +32,8 @@ use Rattle.joint.proofs.Ends.{tok-mark}
 use Rattle.joint.proofs.Loops.{ready-of}
 use Rattle.levels.specs.declared.Before.{Before}
 use Rattle.levels.specs.declared.Before.the-variants as before
-use Rattle.levels.specs.Levels.{operators, hand, joining, Held, Joined}
+use Rattle.levels.specs.Levels.{operators, Held, Joined}
+use Rattle.levels.proofs.Standing.{hand, joining, Goes, goes}
 
 -- the operands of the levels, and an operator with its right operand
 abbrev pub operand : ℕ → Rule
@@ -164,15 +165,18 @@ module _ {src toks : List ℕ} {room l more : ℕ} {u : State} {tr₀ : List ℕ
     reading-held = let g = grown in record { op = λ o l e. omega (arith, i .held .op o l e, g .on); node = λ o l e. omega (arith, i .held .node o l e, g .kept) }
 
     module _ {made : Added} {tr₂ : List ℕ} (j : Joined src toks b n after tr₁ made tr₂) (k₂ : length tr₂ ≡ length tr₁) where
+      one : Goes src toks b n after tr₁ made tr₂
+      one = goes b j
+
       -- what all comes to, by what is read behind the operand
       behind-is : {vs : List Value} {a : Parsed} {t : List ℕ} → Comes src toks room (many (term (operand l) (operators l))) a-node vs (node (made .0 .0) ∷ vs) (made .1) tr₂ a t → Comes src toks room (level (operand l) (operators l)) a-node vs vs u tr₀ a t
-      behind-is {vs} x = i .same vs (part-then read e (j .same x))
+      behind-is {vs} x = i .same vs (part-then read e (one .same x))
 
       pub reading-here : made .1 .at .0 ≤ eofAt toks
-      reading-here = rw (j .at) (grown .here)
+      reading-here = rw (one .at) (grown .here)
 
       used : made .1 .used ≡ textBefore src toks (made .1 .at .0)
-      used = rw (j .at, j .used) (grown .used)
+      used = rw (one .at, one .used) (grown .used)
 
       -- no operator stands behind it
       pub reading-ends : mem (symbolAt src toks (made .1 .at .0)) (operators l) ≡ false → (vs : List Value) → Comes src toks room (level (operand l) (operators l)) a-node vs vs u tr₀ (Node (made .0) (made .1)) tr₂
@@ -187,19 +191,19 @@ module _ {src toks : List ℕ} {room l more : ℕ} {u : State} {tr₀ : List ℕ
         reading-misses h vs = rw d (behind-is (turn-on (low-level l) reading-here (rw (begins-level l) f) (tok-mark reading-here f (part-stop _ (not-called (taken .inside) (used ∙ sym (taken .text)) (rw (first-same l) h)) refl))))
 
         pub reading-less : st .at .0 < on .at .0
-        reading-less = rw (d, j .at) (omega (arith, grown .on))
+        reading-less = rw (d, one .at) (omega (arith, grown .on))
 
         pub reading-goes : mem (symbolAt src toks (made .1 .at .0 + 1)) firstU ≡ true → Reading src toks room l more u tr₀ (before.Operator (made .1 .at) (made .0)) on tr₂
         reading-goes h =
             let r = i .ready in
             let g = grown in
             let w = taken in
-            let at-same = ap (λ (x : TokenNumber). x .0) (j .at) in
+            let at-same = ap (λ (x : TokenNumber). x .0) (one .at) in
             rw d (record {
-              ready = ready-of (r .tokens) (omega (arith, k, k₂, r .room), w .inside, omega (arith, r .nodes, g .nodes, j .nodes .1, at-same), omega (arith, r .opened, few, g .opened, j .opened, at-same), used ∙ sym (w .text));
+              ready = ready-of (r .tokens) (omega (arith, k, k₂, r .room), w .inside, omega (arith, r .nodes, g .nodes, one .nodes .1, at-same), omega (arith, r .opened, few, g .opened, one .opened, at-same), used ∙ sym (w .text));
               seen = h;
               on = omega (arith, i .on, g .on, at-same);
               long = k₂ ∙ k ∙ i .long;
-              held = held-one (omega arith) (j .there (g .node));
+              held = held-one (omega arith) (one .there (g .node));
               same = λ vs x. behind-is (turn-on (low-level l) reading-here (rw (begins-level l) f) (tok-mark reading-here f x));
             })

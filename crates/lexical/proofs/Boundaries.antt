@@ -1,4 +1,4 @@
--- Where characters begin in a well-formed source: at each byte under 128, so wherever a token starts.
+-- Where characters begin in a well-formed source: at each byte under 128, so wherever a token that the table finds starts.
 -- Assumes nothing.
 use mathlib.Core.Path.{_≡_, refl, sym, ap, _∙_}
 use mathlib.Core.Bool.{true, _&&_}
@@ -86,7 +86,7 @@ between-characters s at w h b =
       rw (← both, drop-at (bytesOf (p .before)) (bytesOf (p .after)) at (p .place)) (well (p .after) (are-right (p .before) (p .after) each)),
     )
 
--- any token starts between characters
+-- any token that the table finds starts between characters
 pub token-starts : (s : List ℕ) (at code end : ℕ) → utf8Error s ≡ WellFormed → getD s at 0 < 256 → tokenAt s at ≡ Found code end → (utf8Error (take at s) ≡ WellFormed) × (utf8Error (drop at s) ≡ WellFormed)
 token-starts s at code end w b f = between-characters s at w (omega (arith, token-within s at code end f)) (go (decLt (getD s at 0) 128))
   where

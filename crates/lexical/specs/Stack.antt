@@ -49,7 +49,7 @@ levelAmong at end ks =
     (cond (eqb k (top + step)) (Level end Indent 1 k) (No 7 at))
     (cond (among k ks) (Level end Dedent (above k ks) k) (No 8 at)))
 
--- what a line's spaces say, by the byte behind them (`indentationAt` of lexer, with the stack for its top)
+-- what a line's spaces say, by the byte behind them (`indentationAt` of spacing, with the stack for its top)
 unfoldable pub indentationAmong : List ℕ → ℕ → List ℕ → Indentation
 indentationAmong s at ks =
     let end = spacesEnd s at in
