@@ -1,6 +1,7 @@
 -- "A token can begin a rule when some reading of the rule starts with it" (01, Grammar): each token of a rule's table does. For each the checker finds
 -- a reading by the ordered trial, among the shortest rests of statements and expressions. (That a table has every such token is `passes`.)
--- Within a rule no set of tokens is empty, and each code in it is one of a token. (That no way of the descent is a dead end follows from a test of its own: Late.antt, `finishes`.)
+-- Within a rule no set of tokens is empty, and each code in it is a token's. (That no way of the descent is a dead end follows from a test of its own:
+-- Late.antt, `finishes`.)
 -- Assumes nothing.
 use Prim.Native.Nat.{ℕ}
 use mathlib.Core.Bool.{Bool, true, false, _&&_, _||_}
