@@ -44,8 +44,9 @@ def read(path):
             t.edits.append((m.group(1), m.group(2), int(m.group(3))))
         elif m := RAN.fullmatch(line):
             t.runs.append((m.group(1), int(m.group(2))))
-        m = LAST.fullmatch(line)
-        t.last = (int(m.group(1)), int(m.group(2))) if m else t.last if not line else None
+        if line:
+            m = LAST.fullmatch(line)
+            t.last = (int(m.group(1)), int(m.group(2))) if m else None
     return t
 
 
@@ -127,6 +128,8 @@ def unfit(t):
 def put(page, text):
     """Puts the text between the comments of the page; a page without them gets the section at its end."""
     body = open(page, encoding="utf8").read()
+    if (BEGIN in body) != (END in body):
+        sys.exit("gate_times: %s has one of its two comments alone" % page)
     if BEGIN not in body:
         body = body.rstrip("\n") + "\n\n%s\n\n%s\n\n%s\n%s\n" % (HEADING, MADE, BEGIN, END)
     before, rest = body.split(BEGIN)

@@ -69,7 +69,7 @@ def folder(x, y, w, box):
     return out + [text(x, y + 21, box.name, 14.5, "#57606a", 500, "middle", MONO)]
 
 
-def line(a, top, b, bottom, across, colour, dashed=False):
+def line(a, top, b, bottom, across, colour):
     """Down from (a, top), across at that height, down to (b, bottom); corners are round."""
     d = "M%s %s" % (at(a), at(top))
     if a != b:
@@ -77,7 +77,7 @@ def line(a, top, b, bottom, across, colour, dashed=False):
         d += "V%s Q%s %s %s %s" % (at(across - r), at(a), at(across), at(a + side * r), at(across))
         d += "H%s Q%s %s %s %s" % (at(b - side * r), at(b), at(across), at(b), at(across + r))
     d += "V%s" % at(bottom)
-    return '<path d="%s" fill="none" stroke="%s" stroke-width="1.5"%s/>' % (d, colour, ' stroke-dasharray="4 3"' if dashed else "")
+    return '<path d="%s" fill="none" stroke="%s" stroke-width="1.5"/>' % (d, colour)
 
 
 def arrow(x, y, colour):

@@ -1,7 +1,7 @@
 #!/usr/bin/env python3
 """Says where the map that tools/map.py draws cannot be read: a line through a box, two lines on top of each other, two boxes that touch.
 
-    tools/map_faults.py [ROOT]    exit status 1 where there is a fault
+    tools/map_faults.py    exit status 1 where there is a fault
 """
 import sys
 
@@ -53,7 +53,7 @@ def faults(m):
 
 
 def main():
-    found = sorted(set(faults(Map(sys.argv[1] if len(sys.argv) > 1 else ROOT))))
+    found = sorted(set(faults(Map(ROOT))))
     for fault in found:
         print("map: " + fault)
     sys.exit(1 if found else 0)

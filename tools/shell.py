@@ -16,6 +16,7 @@ import subprocess
 import sys
 import tempfile
 import termios
+import threading
 import time
 import tty
 
@@ -47,12 +48,12 @@ def left(pipe):
 
 
 def feed(pipe, parted, process):
+    end = time.monotonic() + LIMIT
     for part in parted:
         try:
             os.write(pipe, part)
         except BrokenPipeError:
             return
-        end = time.monotonic() + LIMIT
         while left(pipe) and process.poll() is None and time.monotonic() < end:
             time.sleep(0.0005)
 
@@ -156,14 +157,17 @@ def shut(program, script, what):
 def narrow(program, script):
     """Standard output is a pipe of one page, read slowly."""
     reads, writes = os.pipe()
-    fcntl.fcntl(writes, 1031, 4096)  # F_SETPIPE_SZ
+    fcntl.fcntl(writes, fcntl.F_SETPIPE_SZ, 4096)
     got = []
 
     def reading(process):
         os.close(writes)
+        limit = threading.Timer(LIMIT, process.kill)
+        limit.start()
         while part := os.read(reads, 1000):
             got.append(part)
             time.sleep(0.001)
+        limit.cancel()
         os.close(reads)
 
     with open(script, "rb") as file:
@@ -218,14 +222,14 @@ def failures(program, work, told):
     return failed, count
 
 
-def wrong(work):
+def wrong(program, work):
     """Each stand-in that is wrong must be found, and the one that is right must not."""
     stand_in = os.path.join(work, "wrong_shell")
     subprocess.run([os.environ.get("CC", "cc"), "-std=c99", "-Wall", "-Wextra", "-O2", os.path.join(ROOT, "tools", "wrong_shell.c"), "-o", stand_in], check=True)
     missed = 0
     kinds = ["right", "reads_once", "stops_at_the_limit", "a_failed_read_ends_the_input", "a_failed_write_is_silent"]
     for kind in kinds:
-        failed, count = failures([stand_in, kind, BUILT], work, False)
+        failed, count = failures([stand_in, kind, program], work, False)
         missed += (kind == "right") != (not failed)
         print(f"{kind}: {len(failed)} of {count} cases fail" + (": " + "; ".join(failed) if failed else ""))
     print(f"shell: {len(kinds) - 1} wrong programs and a right one, {missed} taken wrongly")
@@ -233,13 +237,16 @@ def wrong(work):
 
 
 def main():
-    program = os.environ.get("PROGRAM")
-    if not program:
+    if sys.argv[1:] not in ([], ["--wrong"]):
+        print(__doc__.strip(), file=sys.stderr)
+        return 2
+    program = os.environ.get("PROGRAM", BUILT)
+    if program == BUILT:
         subprocess.run(["rt", "check", "tarbucket"], cwd=ROOT, check=True, stdout=subprocess.DEVNULL)
     with tempfile.TemporaryDirectory() as work:
-        if sys.argv[1:] == ["--wrong"]:
-            return 1 if wrong(work) else 0
-        failed, count = failures([program or BUILT], work, True)
+        if sys.argv[1:]:
+            return 1 if wrong(program, work) else 0
+        failed, count = failures([program], work, True)
     print(f"shell: {count} cases, {len(failed)} failed")
     return 1 if failed else 0
 

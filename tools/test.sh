@@ -1,6 +1,6 @@
 #!/bin/sh
 # Tests the repository's own tools: the map is that of today, the table of the gate's time is right for a stored log, and the makers of the stored cases
-# make them again. Each check that can fail is shown to fail. It wants Python 3.10 or newer, and nothing else.
+# make them again. Each of these checks is shown to fail, on a copy in which it is not so. It wants Python 3.10 or newer, and nothing else.
 #
 #     tools/test.sh        in about half a minute
 #     tools/test.sh all    makes the cases of reader_cases again too, which takes as long again
@@ -92,6 +92,9 @@ later: lexer utf8/'
 yes "a crate more is drawn" python3 "$copy/tools/map.py"
 yes "by its name" grep -q '>later</text>' "$copy/docs/map.svg"
 yes "and no line runs through a box" python3 "$copy/tools/map_faults.py"
+begin
+yes "boxes that are laid too near" change tools/map_layout.py 's/(False, False): 20/(False, False): -40/'
+no "boxes that touch are seen" "touch" python3 "$copy/tools/map_faults.py"
 
 # ---- the table of the gate's time
 data=tools/testdata
@@ -108,22 +111,32 @@ echo '# A page' >"$work/page.md"
 yes "the table of a stored log" same_table "$data/gate.log"
 yes "it is written at a page's end" written "$data/gate.log"
 yes "and then in its own place" written "$data/gate.log"
+cp "$work/page.md" "$work/before.md"
 sed '$d' "$data/gate.log" >"$work/cut.log"
 no "a log that is cut" "its last line is not" timed "$work/cut.log" --write
 sed 's/, 0 failed/, 2 failed/' "$data/gate.log" >"$work/red.log"
 no "a gate that failed" "2 failed" timed "$work/red.log" --write
 grep -v 'nothing_zeroed' "$data/gate.log" >"$work/lost.log"
 no "an edit's line that is lost" "14 passed, and 13 were found" timed "$work/lost.log" --write
-yes "a refusal leaves the page" written "$data/gate.log"
+yes "a refusal leaves the page" cmp "$work/before.md" "$work/page.md"
 
 # ---- the stored cases, made again
-again() { # CRATE
-    mkdir -p "$work/$1/data" && python3 "tools/$1.py" "$work/$1" || return 1
-    (cd "$work/$1" && find . -type f) | while IFS= read -r file; do cmp "$work/$1/$file" "crates/$1/$file" || exit 1; done
+make_cases() { # CRATE
+    mkdir -p "$work/$1/data" && python3 "tools/$1.py" "$work/$1" && { rmdir "$work/$1/data" 2>/dev/null || true; }
+}
+# The crate has each file that was made, and no other file of cases.
+same_cases() { # CRATE
+    [ -s "$work/$1/stdout" ] || return 1
+    for part in stdin stdout data; do
+        if [ -e "$work/$1/$part" ] || [ -e "crates/$1/$part" ]; then diff -rq "$work/$1/$part" "crates/$1/$part" || return 1; fi
+    done
 }
 for crate in leaf_cases scan_cases expr_cases ${1:+reader_cases}; do
-    yes "the cases of $crate" again "$crate"
+    yes "the cases of $crate are made" make_cases "$crate"
+    yes "the cases of $crate" same_cases "$crate"
 done
+echo x >>"$work/expr_cases/stdin"
+no "a case that is not the stored one" "differ" same_cases expr_cases
 
 echo "$passed passed, $failed failed"
 [ "$failed" -eq 0 ]

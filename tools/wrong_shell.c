@@ -33,11 +33,12 @@ int main(int argc, char **argv) {
         return 2;
     /* beyond the first three, which may be closed */
     int in = fcntl(ends[0], F_DUPFD_CLOEXEC, 10);
-    if (write(ends[1], script, n) != (ssize_t)n)
+    if (in < 0 || write(ends[1], script, n) != (ssize_t)n)
         return 2;
     close(ends[0]);
     close(ends[1]);
-    dup2(in, 0);
+    if (dup2(in, 0) < 0)
+        return 2;
     if (!strcmp(kind, "a_failed_write_is_silent"))
         dup2(open("/dev/null", O_WRONLY | O_CLOEXEC), 2);
     execv(argv[2], argv + 2);

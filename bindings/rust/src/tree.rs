@@ -28,7 +28,7 @@ impl std::error::Error for BadTree {}
 
 impl<'a> Tree<'a> {
     /// A view of a source, its decoded strings, and the words of its tree. Every field of every node is checked once, so that no later look at the tree
-    /// can fail: a field's node has a lower number than the node itself, and a next node a higher one.
+    /// can fail; among other things, that a field's node has a lower number than the node itself and a next node a higher one, which no law says yet.
     pub fn new(src: &'a [u8], text: &'a [u8], words: &'a [u32]) -> Result<Tree<'a>, BadTree> {
         let tree = Tree { src, text, words };
         if words.len() < 16 || words.len() % 8 != 0 {

@@ -33,14 +33,10 @@ use Rattle.lexical.specs.Characters.{isCharacter, areCharacters, bytesOf
 use Rattle.lexical.specs.Strings.{is, closing, string, ByCharacters}
 use Rattle.lexical.proofs.Characters.{whole, well}
 use Rattle.lexical.proofs.Boundaries.{bytes-append, are-left, are-right, between-characters}
+use Rattle.lexical.proofs.Finds.{behind-sum}
 use Rattle.lexical.proofs.Strings.{string-of, decoded-of}
 
 -- ---- a string closes behind whole characters
-
-behind-is : (k n : ℕ) → 0 < behind k n → (0 < n) × (behind k n ≡ k + n)
-unfolding behind
-behind-is k zero h = absurd (omega arith)
-behind-is k (suc n) h = (omega arith, refl)
 
 is-one : (b : ℕ) (c : List ℕ) → is b c ≡ true → c ≡ b ∷ []
 is-one b [] e = absurd (true≢false (sym e))
@@ -77,11 +73,11 @@ closed q (c ∷ d ∷ cs) h = go (is q c) (is 92 c) (is 10 d) refl refl (closed 
     go true u v e f x y h = here q c (d ∷ cs) e
     go false true true e f x y h = absurd (omega arith)
     go false true false e f x y h =
-        let b = behind-is (1 + length d) (closing q cs) h in
+        let b = behind-sum (1 + length d) (closing q cs) h in
         let l : length c + (length d + closing q cs) ≡ behind (1 + length d) (closing q cs) = omega (arith, ap length (is-one 92 c f), b .1) in
         rw l at (further q c (d ∷ cs) (length d + closing q cs) (further q d cs (closing q cs) (x (b .0))))
     go false false v e f x y h =
-        let b = behind-is (length c) (closing q (d ∷ cs)) h in
+        let b = behind-sum (length c) (closing q (d ∷ cs)) h in
         rw (b .1) (further q c (d ∷ cs) (closing q (d ∷ cs)) (y (b .0)))
 
 -- a string: its quote, what is between the quotes, and what follows it
@@ -98,7 +94,7 @@ quoted (c ∷ cs) h = go (is 34 c) (is 39 c) refl refl
   where
     by : (q : ℕ) → is q c ≡ true → string (c ∷ cs) ≡ behind 1 (closing q cs) → Quoted (c ∷ cs)
     by q e s =
-        let b = behind-is 1 (closing q cs) (rw s at h) in
+        let b = behind-sum 1 (closing q cs) (rw s at h) in
         let x = closed q cs (b .0) in
         record { quote = q; inner = x .inner; rest = x .rest; is-all = rw (is-one q c e, ← x .is-all); long = omega (arith, s, b .1, x .long) }
 

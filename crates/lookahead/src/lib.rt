@@ -23,5 +23,5 @@ pub use sets::is_symbol;
 pub use skip::skip_newlines;
 pub use skip::skip_signs;
 
-// The code that stands for the name `t` (specs/Symbol.antt of the grammar).
+// The code that stands for the name `t` (specs/Symbol.antt of pyhyeon).
 pub const TEE: u32 = 50;

@@ -1,4 +1,4 @@
-// The tests of a token's symbol: the sets that the rules' tables have (specs/Tables.antt of the grammar).
+// The tests of a token's symbol: the sets that the rules' tables have (specs/Tables.antt of pyhyeon).
 ghost use mathlib.Core.Path.{_≡_};
 ghost use mathlib.Core.List.{[], _∷_};
 ghost use Rattle.grammar.specs.Sets.{mem};

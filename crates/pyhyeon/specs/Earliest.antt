@@ -15,8 +15,7 @@ Accepts source toks = (nodes : List Node) × (trial source toks ≡ Fits nodes)
 
 -- The place is the start of the earliest token that does not fit: the tokens before it begin some list of tokens that the trial accepts, and with it
 -- they begin none. (The list need not come of a source, since what fits is asked of the grammar: a token of it with the code of `Tee` stands for a
--- name `t`.) There is one such place at most
--- (proofs/Earliest.antt, `one-place`).
+-- name `t`.) There is one such place at most (proofs/Earliest.antt, `one-place`).
 pub record Earliest (source : List ℕ) (toks : List Token) (place : ℕ) : Type 0 where
   pub before : List Token
   pub token : Token

@@ -1,4 +1,5 @@
 -- What is printed depends on the bytes alone, and not on the reads that handed them over: the joined chunks are the source.
+-- A promise to people (docs/SENTENCES.md), of an input that no failed read ends.
 -- Assumes nothing.
 use mathlib.Core.Path.{_≡_, refl, ap, _∙_}
 use mathlib.Core.Bool.{Bool, true, false, cond}

@@ -47,12 +47,14 @@ shown (whole l) = listing l
 shown longer = printedNo 1 0
 shown failed = []
 
+-- the end is still to come
 abbrev pub isOpen : Input → Bool
 isOpen (front l) = true
 isOpen (whole l) = false
 isOpen longer = false
 isOpen failed = false
 
+-- a read failed
 abbrev pub hasFailed : Input → Bool
 hasFailed (front l) = false
 hasFailed (whole l) = false
@@ -66,6 +68,7 @@ inputOf Whole l = whole l
 inputOf Longer l = longer
 inputOf Failed l = failed
 
+-- its stage, with the bytes that were read
 abbrev pub input : Reading → Input
 input r = inputOf (r .stage) (take (r .len) (r .script))
 
