@@ -23,12 +23,12 @@ use Rattle.pyhyeon.specs.Rules.{Program}
 use Rattle.pyhyeon.specs.Tables.{follow, depth, pyhyeon}
 use Rattle.pyhyeon.specs.Prices.{prices}
 use Rattle.pyhyeon.specs.Reading.{Work, Misfit, start, descended, descent}
-use Rattle.pyhyeon.specs.Earliest.{Accepts, Earliest}
+use Rattle.pyhyeon.specs.Earliest.{Accepts, isToken, Earliest}
 use Rattle.pyhyeon.proofs.Language.{language}
 use Rattle.pyhyeon.proofs.Agreement.{map-length, descent-answers}
 use Rattle.pyhyeon.proofs.Meter.{act-at, counted, meter}
 use Rattle.pyhyeon.proofs.Limits.{frugal}
-use Rattle.pyhyeon.proofs.Late.{height, finishes, of-misfit}
+use Rattle.pyhyeon.proofs.Late.{height, isCode, finishes, of-misfit}
 
 module _ (source : List ℕ) (toks : List Token) where
   -- the number of the next token and the number of tokens that are left keep their sum
@@ -56,12 +56,12 @@ module _ (source : List ℕ) (toks : List Token) where
     left lt = let h = at-no (all.whole pyhyeon prices frugal (meter source toks) depth Program (start source toks) refl refl) e in omega (arith, counts, h .sum)
 
     -- the next token is t, between w and v: it is the first that does not fit
-    misfit : (w v : List Token) (t : Token) → w ++ (t ∷ v) ≡ toks → length (s .rest) ≡ suc (length v) → fit.Misfit (Accepts source) w t
+    misfit : (w v : List Token) (t : Token) → w ++ (t ∷ v) ≡ toks → length (s .rest) ≡ suc (length v) → fit.Misfit isToken (Accepts source) w t
     unfolding start symbols follow
     misfit w v t e₁ n =
         let a : map (symbol source) toks ≡ map (symbol source) w ++ (symbol source t ∷ map (symbol source) v) = ap (map (symbol source)) (sym e₁) ∙ map-append (symbol source) w (t ∷ v) in
         of-misfit source toks w t
-        (at-misfit language height finishes tt {M = machine source toks} depth 0 m (map (symbol source) w) (symbol source t) (map (symbol source) v) blank s (rw a at e) (n ∙ ap suc (sym (map-length (symbol source) v))))
+        (at-misfit language isCode height finishes tt {M = machine source toks} depth 0 m (map (symbol source) w) (symbol source t) (map (symbol source) v) blank s (rw a at e) (n ∙ ap suc (sym (map-length (symbol source) v))))
 
     refusal : before Eof (symbols source toks) < length toks → Earliest source toks (tokenAt source toks (s .kept .at) .start)
     refusal lt =

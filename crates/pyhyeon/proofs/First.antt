@@ -1,18 +1,16 @@
 -- "A token can begin a rule when some reading of the rule starts with it" (01, Grammar): each token of a rule's table does. For each the checker finds
 -- a reading by the ordered trial, among the shortest rests of statements and expressions. (That a table has every such token is `passes`.)
--- Within a rule no set of tokens is empty, and each code in it is a token's. (That no way of the descent is a dead end follows from a test of its own:
--- Late.antt, `finishes`.)
+-- Within a rule no set of tokens is empty. (That no way of the descent is a dead end follows from a test of its own: Late.antt, `finishes`.)
 -- Assumes nothing.
 use Prim.Native.Nat.{ℕ}
 use mathlib.Core.Bool.{Bool, true, false, _&&_, _||_}
 use mathlib.Core.List.{List, [], _∷_, _++_}
-use lib.Dec.{T, leb}
+use lib.Dec.{T}
 use Rattle.grammar.specs.Grammar.{Part, skip, act, tok, see, call, _⨾_, _∕_, many, tail}
 use Rattle.grammar.specs.Trial.{Out, ok, fail, out, andThen, orElse, orStay, seqP, altP, loop, manyP, skipP, okIf, takeFrom, takeP, seeP, actP, tailP, eval, rule, enough, parse}
 use Rattle.grammar.proofs.Reading.{mute}
 use Rattle.token.specs.Code.{In, Def, Pass, Identifier, LParen, RParen, RBracket, RBrace, Colon, Indent, Dedent, Newline, Eof}
 use Rattle.pyhyeon.specs.Action.{Action}
-use Rattle.pyhyeon.specs.Symbol.{Tee}
 use Rattle.pyhyeon.specs.Rules.{Rule, Program, Line, Simple, Block, Class, E, O, A, C, S, P, U, F, plain}
 use Rattle.pyhyeon.specs.Tables.{first, joined}
 
@@ -63,24 +61,19 @@ begun P = tt
 begun U = tt
 begun F = tt
 
--- codes of tokens, and Tee
-abbrev known : List ℕ → Bool
-known [] = true
-known (c ∷ cs) = leb 1 c && leb c Tee && known cs
-
--- each token that is asked for is one of some, and all of these are tokens: no way is taken that no token goes on
+-- each token that is asked for is one of some
 abbrev live : Part Action Rule → Bool
 live skip = true
 live (act a) = true
 live (tok []) = false
-live (tok (c ∷ cs)) = known (c ∷ cs)
+live (tok (c ∷ cs)) = true
 live (see []) = false
-live (see (c ∷ cs)) = known (c ∷ cs)
+live (see (c ∷ cs)) = true
 live (call r) = true
 live (p ⨾ q) = live p && live q
 live (p ∕ q) = live p && live q
 live (many p) = live p
-live (tail c p) = known (c ∷ []) && live p
+live (tail c p) = live p
 
 pub lively : (r : Rule) → T (live (joined r))
 unfolding joined plain

@@ -9,10 +9,12 @@ use lib.Dec.{T, eqb}
 use Rattle.grammar.specs.Trial.{Out, ok, fail, out, parse}
 use Rattle.grammar.specs.Descent.{null, begins}
 use Rattle.grammar.specs.Complete.{ready, alive, complete}
-use Rattle.grammar.specs.Misfit.{Misfit}
+use Rattle.grammar.specs.Misfit.{every, Misfit}
 use Rattle.grammar.specs.Misfit as fit
+use Rattle.grammar.proofs.Sets.{and-l, and-r, and-i}
 use Rattle.grammar.proofs.Alike.{fits-alike}
-use Rattle.token.specs.Code.{Identifier}
+use Rattle.source.specs.Bytes.{between}
+use Rattle.token.specs.Code.{If, Identifier, Eof}
 use Rattle.literal.specs.declared.Literal.{Literal}
 use Rattle.tokens.specs.Token.{Token, token}
 use Rattle.pyhyeon.specs.Symbol.{Tee, symbol, symbols}
@@ -21,7 +23,7 @@ use Rattle.pyhyeon.specs.Action.{machine}
 use Rattle.pyhyeon.specs.Rules.{Rule, Program, Line, Simple, Block, Class, E, O, A, C, S, P, U, F, plain}
 use Rattle.pyhyeon.specs.Tables.{joined, first, follow, least, rank, opens, pyhyeon}
 use Rattle.pyhyeon.specs.Reading.{Fits, start, tried, trial}
-use Rattle.pyhyeon.specs.Earliest.{Accepts}
+use Rattle.pyhyeon.specs.Earliest.{Accepts, isToken}
 
 -- how deep rules nest in the shortest reading of a rule: an operand for an E, a `pass` for a Line, a method for a Class
 unfoldable pub height : Rule → ℕ
@@ -39,7 +41,11 @@ height P = 2
 height U = 1
 height F = 0
 
-pub finishes : (r : Rule) → T (complete pyhyeon height r)
+-- the symbols of tokens by their codes
+abbrev pub isCode : ℕ → Bool
+isCode c = between If Eof c
+
+pub finishes : (r : Rule) → T (complete isCode pyhyeon height r)
 unfolding complete ready alive null begins joined plain first follow least rank opens height
 finishes Program = tt
 finishes Line = tt
@@ -70,6 +76,11 @@ symbols-for : (source : List ℕ) (cs : List ℕ) → map (symbol source) (map t
 symbols-for source [] = refl
 symbols-for source (c ∷ cs) = let e = symbol-for source c in let h = symbols-for source cs in cc
 
+-- and such tokens are tokens where the symbols are codes
+tokens-for : (cs : List ℕ) → T (every isCode cs) → T (every isToken (map tokenFor cs))
+tokens-for [] h = tt
+tokens-for (c ∷ cs) h = and-i (isCode c) (every isToken (map tokenFor cs)) (and-l (isCode c) (every isCode cs) h) (tokens-for cs (and-r (isCode c) (every isCode cs) h))
+
 module _ (source : List ℕ) (toks : List Token) where
   -- these symbols are accepted, whatever the tokens were that the machine knows
   abbrev AcceptsSymbols : List ℕ → Type 0
@@ -92,11 +103,12 @@ module _ (source : List ℕ) (toks : List Token) where
       from out d e₁ = absurd (let z : _≡_ {A = ℕ} 0 1 = cc in omega arith)
 
   -- so the first symbol that does not fit is that of the first token that does not
-  pub of-misfit : (w : List Token) (t : Token) → Misfit AcceptsSymbols (map (symbol source) w) (symbol source t) → Misfit (Accepts source) w t
+  pub of-misfit : (w : List Token) (t : Token) → Misfit isCode AcceptsSymbols (map (symbol source) w) (symbol source t) → Misfit isToken (Accepts source) w t
   of-misfit w t h =
       let e : map (symbol source) (w ++ map tokenFor (h .rest)) ≡ map (symbol source) w ++ h .rest = map-append (symbol source) w (map tokenFor (h .rest)) ∙ cc (symbols-for source (h .rest)) in
       record {
         rest = map tokenFor (h .rest);
+        are = tokens-for (h .rest) (h .are);
         fits = of-symbols (w ++ map tokenFor (h .rest)) (rw e (h .fits));
         unfit = λ l a. h .unfit (map (symbol source) l) (rw (map-append (symbol source) w (t ∷ l)) at (to-symbols (w ++ (t ∷ l)) a));
       }
