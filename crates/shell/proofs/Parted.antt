@@ -11,24 +11,10 @@ use lib.Dec.{ltb}
 use lib.ListN.{length, length-append}
 use Rattle.printing.specs.Printed.{printedNo}
 use Rattle.listing.specs.Listing.{listing}
-use Rattle.shell.specs.Input.{bytes, Input, front, longer, heard, shown}
+use Rattle.shell.specs.Input.{front, longer, heard, shown}
+use Rattle.shell.specs.Parted.{Filled, heardAll, joined}
 
--- chunks of at least one byte
-abbrev Some : List (List ℕ) → Type 0
-Some [] = Unit {0}
-Some ([] ∷ cs) = ⊥
-Some ((x ∷ xs) ∷ cs) = Some cs
-
--- each is handed over by a read, and one read more sees the end
-abbrev heard-all : Input → List (List ℕ) → Input
-heard-all i [] = heard i (bytes [])
-heard-all i (c ∷ cs) = heard-all (heard i (bytes c)) cs
-
-abbrev joined : List (List ℕ) → List ℕ
-joined [] = []
-joined (c ∷ cs) = c ++ joined cs
-
-longer-stays : (cs : List (List ℕ)) → heard-all longer cs ≡ longer
+longer-stays : (cs : List (List ℕ)) → heardAll longer cs ≡ longer
 unfolding heard
 longer-stays [] = refl
 longer-stays (c ∷ cs) = longer-stays cs
@@ -38,11 +24,11 @@ unfolding listing
 listed-longer l h = rw (lt-ltb 1023 (length l) h)
 
 -- one chunk more, with what was read before it
-tested : (t : Bool) (m : List ℕ) (cs : List (List ℕ)) → ltb 1023 (length m) ≡ t → shown (heard-all (front m) cs) ≡ listing (m ++ joined cs) → shown (heard-all (cond t longer (front m)) cs) ≡ listing (m ++ joined cs)
+tested : (t : Bool) (m : List ℕ) (cs : List (List ℕ)) → ltb 1023 (length m) ≡ t → shown (heardAll (front m) cs) ≡ listing (m ++ joined cs) → shown (heardAll (cond t longer (front m)) cs) ≡ listing (m ++ joined cs)
 tested true m cs e rest = ap shown (longer-stays cs) ∙ listed-longer (m ++ joined cs) (omega (arith, ltb-true 1023 (length m) e, length-append m (joined cs)))
 tested false m cs e rest = rest
 
-go : (l : List ℕ) (cs : List (List ℕ)) → Some cs → shown (heard-all (front l) cs) ≡ listing (l ++ joined cs)
+go : (l : List ℕ) (cs : List (List ℕ)) → Filled cs → shown (heardAll (front l) cs) ≡ listing (l ++ joined cs)
 unfolding heard
 go l [] s = rw append-nil
 go l ([] ∷ cs) s = absurd s
@@ -50,5 +36,5 @@ go l ((x ∷ xs) ∷ cs) s =
     let m = l ++ (x ∷ xs) in
     tested (ltb 1023 (length m)) m cs refl (go m cs s) ∙ ap listing (append-assoc l (x ∷ xs) (joined cs))
 
-pub parted : (cs : List (List ℕ)) → Some cs → shown (heard-all (front []) cs) ≡ listing (joined cs)
+pub parted : (cs : List (List ℕ)) → Filled cs → shown (heardAll (front []) cs) ≡ listing (joined cs)
 parted cs s = go [] cs s
