@@ -227,7 +227,7 @@ def wrong(program, work):
     stand_in = os.path.join(work, "wrong_shell")
     subprocess.run([os.environ.get("CC", "cc"), "-std=c99", "-Wall", "-Wextra", "-O2", os.path.join(ROOT, "tools", "wrong_shell.c"), "-o", stand_in], check=True)
     missed = 0
-    kinds = ["right", "reads_once", "stops_at_the_limit", "a_failed_read_ends_the_input", "a_failed_write_is_silent"]
+    kinds = ["right", "reads_once", "loses_a_read", "stops_at_the_limit", "a_failed_read_ends_the_input", "a_failed_write_is_silent"]
     for kind in kinds:
         failed, count = failures([stand_in, kind, program], work, False)
         missed += (kind == "right") != (not failed)

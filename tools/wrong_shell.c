@@ -2,7 +2,7 @@
 
        wrong_shell KIND PROGRAM
 
-   KIND is `right`, `reads_once`, `stops_at_the_limit`, `a_failed_read_ends_the_input` or `a_failed_write_is_silent`. */
+   KIND is `right`, `reads_once`, `loses_a_read`, `stops_at_the_limit`, `a_failed_read_ends_the_input` or `a_failed_write_is_silent`. */
 #define _GNU_SOURCE
 #include <fcntl.h>
 #include <stdio.h>
@@ -18,6 +18,8 @@ int main(int argc, char **argv) {
     size_t n = 0;
     while (n < most) {
         ssize_t got = read(0, script + n, most - n);
+        if (got > 0 && !strcmp(kind, "loses_a_read"))
+            got = read(0, script + n, most - n);
         if (got < 0 && strcmp(kind, "a_failed_read_ends_the_input")) {
             perror("tarbucket: standard input");
             return 0;

@@ -1,4 +1,5 @@
--- An input that comes in chunks, read by read, up to its end. The law `parted` (proofs/Parted.antt) says what is printed for it.
+-- An input that comes in chunks, read by read, up to its end: "The program reads standard input up to 1,023 bytes" (01, Scripts). The law `parted`
+-- (proofs/Parted.antt) says what is printed for it.
 -- Assumes nothing.
 use Prim.Native.Nat.{ℕ}
 use mathlib.Core.List.{List, [], _∷_, _++_}
