@@ -1,7 +1,8 @@
 //! Times the verified reader beside a plain one in Rust and CPython's parser, over the same sources.
 //!
 //! `bench FOLDER` writes the sources into FOLDER and prints the table; `bench --pass SIDE SET TIMES` makes passes of
-//! one side alone, for a profile; `bench --sources FOLDER` writes the sources alone.
+//! one side alone, for a profile; `bench --sources FOLDER` writes the sources alone; `bench --kiosks FOLDER` writes a
+//! folder of scripts for each kiosk.
 
 mod clock;
 mod scripts;
@@ -39,8 +40,9 @@ fn main() {
     match arguments[..] {
         ["--pass", side, set, times] => one_side(side, set, times),
         ["--sources", folder] => write_sources(Path::new(folder), &sets()),
+        ["--kiosks", folder] => write_kiosks(Path::new(folder)),
         [folder] => table(Path::new(folder)),
-        _ => panic!("bench FOLDER, bench --sources FOLDER, or bench --pass SIDE SET TIMES"),
+        _ => panic!("bench FOLDER, bench --sources FOLDER, bench --kiosks FOLDER, or bench --pass SIDE SET TIMES"),
     }
 }
 
@@ -69,6 +71,17 @@ fn write_sources(folder: &Path, sets: &[Set]) {
         std::fs::create_dir_all(&folder).expect("a folder for the sources");
         for (number, source) in set.sources.iter().enumerate() {
             std::fs::write(folder.join(format!("{number:03}.py")), source).expect("a source written");
+        }
+    }
+}
+
+/// All that is on the kiosks: a folder for each, with its scripts.
+fn write_kiosks(folder: &Path) {
+    for kiosk in 0..scripts::KIOSKS {
+        let folder = folder.join(format!("kiosk_{kiosk:03}"));
+        std::fs::create_dir_all(&folder).expect("a folder for a kiosk");
+        for (number, source) in scripts::of_kiosk(kiosk).iter().enumerate() {
+            std::fs::write(folder.join(format!("script_{number:02}.pyh")), source).expect("a script written");
         }
     }
 }

@@ -4,6 +4,10 @@
 /// How many scripts there are.
 pub const SCRIPTS: u64 = 340;
 
+/// How many kiosks there are, and how many scripts each of them has.
+pub const KIOSKS: u64 = 340;
+const EACH: u64 = 60;
+
 /// A xorshift generator.
 struct Random(u64);
 
@@ -23,6 +27,16 @@ impl Random {
 /// The scripts of about 700 bytes.
 pub fn scripts() -> Vec<Vec<u8>> {
     (0..SCRIPTS).map(script).collect()
+}
+
+/// The scripts of a kiosk, no two of all kiosks alike. In the last one a colon is missing at the end of a line, so it is refused.
+pub fn of_kiosk(kiosk: u64) -> Vec<Vec<u8>> {
+    let mut scripts: Vec<Vec<u8>> = (0..EACH).map(|number| script(kiosk * EACH + number)).collect();
+    if let Some(last) = scripts.last_mut() {
+        let colon = last.windows(2).position(|w| w == b":\n").expect("a script has a block");
+        last.remove(colon);
+    }
+    scripts
 }
 
 fn script(number: u64) -> Vec<u8> {

@@ -1,0 +1,23 @@
+#!/bin/sh
+# Times `pyh check` over the scripts of all kiosks, 340 folders of 60, one script of each refused: the best of ten runs, by the wall's clock, for each
+# format. The files were just written, so the system has them in memory. Under a minute where the reader is proved already.
+set -eu
+cd "$(dirname "$0")/.."
+pyh/build.sh
+cargo build --offline --release --quiet --manifest-path bench/Cargo.toml --target-dir target/bench
+kiosks=target/bench/kiosks
+rm -rf "$kiosks"
+target/bench/release/bench --kiosks "$kiosks"
+echo "$(find "$kiosks" -name '*.pyh' | wc -l) scripts, $(find "$kiosks" -name '*.pyh' -exec cat {} + | wc -c) bytes"
+for format in text short json; do
+    best=
+    for _ in 1 2 3 4 5 6 7 8 9 10; do
+        status=0
+        start=$(date +%s%N)
+        target/cargo/release/pyh check --format "$format" "$kiosks" >target/bench/checked 2>&1 || status=$?
+        took=$((($(date +%s%N) - start) / 1000000))
+        [ "$status" = 1 ]
+        if [ -z "$best" ] || [ "$took" -lt "$best" ]; then best=$took; fi
+    done
+    echo "pyh check --format $format: $best ms; $(tail -n 1 target/bench/checked)"
+done

@@ -1,0 +1,27 @@
+//! Lines of JSON.
+use crate::names;
+use std::ffi::OsStr;
+use std::fmt::Write;
+
+/// A string in quotes, as RFC 8259 has it.
+pub fn string(text: &str) -> String {
+    let mut out = String::from('"');
+    for c in text.chars() {
+        match c {
+            '"' | '\\' => out.extend(['\\', c]),
+            '\n' => out.push_str("\\n"),
+            '\u{0}'..='\u{1f}' | '\u{7f}' => _ = write!(out, "\\u{:04x}", c as u32),
+            _ => out.push(c),
+        }
+    }
+    out.push('"');
+    out
+}
+
+/// The member `file`: the name. One that is no UTF-8 is shown as well as can be, and a member `file_hex` has its bytes.
+pub fn file(name: &OsStr) -> String {
+    match name.to_str() {
+        Some(text) => format!("\"file\":{}", string(text)),
+        None => format!("\"file\":{},\"file_hex\":\"{}\"", string(&names::shown(name)), names::hex(name)),
+    }
+}

@@ -1,0 +1,41 @@
+//! A refusal in each format.
+use crate::terminal::{Look, BOLD, RED};
+use crate::{excerpt, json, names, sentence};
+use std::ffi::OsStr;
+use tarbucket::Error;
+
+/// For people: line and column, the line with a caret, and a sentence. `name` is there where more than one script may be meant.
+pub fn text(name: Option<&OsStr>, src: &[u8], error: Error, look: &Look) -> String {
+    let head = match name {
+        Some(name) => format!("{}: {}", look.paint(BOLD, &names::shown(name)), look.paint(RED, "refused")),
+        None => look.paint(RED, "Refused"),
+    };
+    let why = sentence::sentence(src, error);
+    let number = error.number();
+    if matches!(error, Error::TooLong) {
+        return format!("{head} (number {number})\n{why}\n");
+    }
+    let at = excerpt::locate(src, error.place());
+    let shown = excerpt::shown(src, &at, look);
+    format!("{head}: line {}, column {} (number {number})\n{shown}{why}\n", at.line, at.column)
+}
+
+/// For editors: FILE:LINE:COLUMN: NUMBER SENTENCE. Numbers with no place have 1:1.
+pub fn short(name: &OsStr, src: &[u8], error: Error) -> String {
+    let at = excerpt::locate(src, error.place());
+    format!("{}:{}:{}: {} {}\n", names::shown(name), at.line, at.column, error.number(), sentence::sentence(src, error))
+}
+
+/// For programs: an object on a line.
+pub fn object(name: &OsStr, src: &[u8], error: Error) -> String {
+    let at = excerpt::locate(src, error.place());
+    format!(
+        "{{\"kind\":\"refused\",{},\"line\":{},\"column\":{},\"number\":{},\"place\":{},\"sentence\":{}}}\n",
+        json::file(name),
+        at.line,
+        at.column,
+        error.number(),
+        error.place(),
+        json::string(&sentence::sentence(src, error))
+    )
+}

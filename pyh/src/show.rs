@@ -1,0 +1,68 @@
+//! `pyh show`: a drawing of the tree, or the refusal.
+use crate::arguments::{Command, Wanted};
+use crate::output::{say, why, Output};
+use crate::terminal::Look;
+use crate::{drawing, names, report, scripts, ACCEPTED, REFUSED, TROUBLE};
+use std::ffi::OsStr;
+use tarbucket::Reader;
+
+pub const COMMAND: Command = Command {
+    name: "show",
+    summary: "draws a script's tree, or shows where and why it is refused",
+    usage: "usage: pyh show [FILE]...",
+    help: HELP,
+    options: &[],
+    run: show,
+};
+
+const HELP: &str = "\
+Draws the tree of each script that is accepted: a line for each node, its parts
+indented below it. Of a script that is refused it shows the line with a caret
+under the place, and says why. Where no FILE is named, and for -, it reads
+standard input.
+
+options:
+  -h, --help       prints this help
+  -V, --version    prints the version
+  --               ends the options: all that follows is a name
+
+Lines and columns count from 1. A column counts characters, not bytes: é is one.
+
+exit status: 0 all accepted, 1 a script is refused, 2 something can't be read or
+written, or the command line is wrong
+";
+
+fn show(wanted: &Wanted) -> Result<u8, String> {
+    scripts::input_once(&wanted.names)?;
+    let names = match wanted.names[..] {
+        [] => vec![OsStr::new(scripts::INPUT)],
+        ref names => names.to_vec(),
+    };
+    let look = Look::new();
+    let mut reader = Reader::new();
+    let mut out = Output::new();
+    let mut src = Vec::new();
+    let mut status = ACCEPTED;
+    for name in &names {
+        if let Err(e) = scripts::read(name, &mut src) {
+            out.flush();
+            say(&format!("pyh: {}: {}", names::shown(name), why(&e)));
+            status = TROUBLE;
+            continue;
+        }
+        if names.len() > 1 {
+            out.write(&format!("== {}\n", names::shown(name)));
+        }
+        match reader.read(&src) {
+            Ok(tree) => out.write(&drawing::drawing(&tree, &look)),
+            Err(e) => {
+                status = status.max(REFUSED);
+                out.write(&report::text(None, &src, e, &look));
+            }
+        }
+        if out.is_lost() {
+            break;
+        }
+    }
+    Ok(out.end(status))
+}
