@@ -1,5 +1,5 @@
 #!/bin/sh
-# Builds wrong copies of pyh: the stored cases must find each. It wants what pyh/test.sh wants, and two minutes.
+# Builds wrong copies of pyh: the stored cases must find each. It wants what pyh/test.sh wants, and some six minutes.
 set -eu
 cd "$(dirname "$0")/.."
 rt staticlib ffi >/dev/null
@@ -35,8 +35,8 @@ wrong "a name's control characters as they are" names.rs 's/c.is_control() ||//'
 wrong "colours in a pipe" terminal.rs 's/colours: columns.is_some() \&\& moves()/colours: moves()/'
 wrong "NO_COLOR not asked for" terminal.rs 's/ \&\& var_os("NO_COLOR").is_none()//'
 wrong "NO_COLOR asked for a value" terminal.rs 's/var_os("NO_COLOR").is_none()/var_os("NO_COLOR").is_none_or(|v| v.is_empty())/'
-wrong "progress that stays" progress.rs 's/if self.drawn.take().is_some()/if self.drawn.take().is_some() \&\& false/'
-wrong "progress in a file" progress.rs 's/columns: columns(.*/columns: Some(80), drawn: None }/'
+wrong "progress that stays" progress.rs 's/if std::mem::take(&mut self.there)/if false/'
+wrong "progress in a file" progress.rs 's/columns: columns(&io::stderr()).filter(|_| moves())/columns: Some(80)/'
 wrong "progress for one script" progress.rs 's/of > FEW/of > 0/'
 wrong "a panic where errors can't be written" output.rs 's/let _ = writeln!(io::stderr(), /eprintln!(/'
 wrong "a closed pipe that is an error" output.rs 's/ if e.kind() != ErrorKind::BrokenPipe//'
@@ -45,7 +45,7 @@ wrong "no status of its own for what can't be read" check.rs 's/_ => TROUBLE/_ =
 wrong "an empty folder taken for a good one" scripts.rs 's/if scripts.len() == before/if false/'
 wrong "links followed" scripts.rs 's/let kind = entry.file_type()?;/let kind = path.metadata().map_or(entry.file_type()?, |m| m.file_type());/'
 wrong "folders in no order" scripts.rs 's/b.0.as_os_str().cmp(a.0.as_os_str())/a.0.as_os_str().cmp(b.0.as_os_str())/'
-wrong "a pipe that is waited for" scripts.rs 's/is_other(&path).then/false.then/'
+wrong "a pipe that is waited for" scripts.rs 's/if !end.is_file() =>/if false =>/'
 wrong "standard input twice" scripts.rs 's/0 | 1 => Ok/0 | 1 | 2 => Ok/'
 wrong "options behind --" arguments.rs 's/if bytes == b"--" {/if bytes == b"--" { continue;/'
 wrong "the first option for the nearest" arguments.rs 's/names.min_by_key(.*/{ let mut names = names; names.next().expect("there are names") }/'

@@ -96,7 +96,10 @@ impl Check {
             }
         }
         self.progress.clear();
-        self.sum();
+        // where no one reads on, not all was checked, and there are no totals
+        if !self.out.is_lost() {
+            self.sum();
+        }
         let status = match self.totals {
             Totals { unreadable: 0, refused: 0, .. } => ACCEPTED,
             Totals { unreadable: 0, .. } => REFUSED,

@@ -12,12 +12,15 @@ const PAUSE: Duration = Duration::from_millis(50);
 pub struct Progress {
     /// Of the terminal; none where there is no line.
     columns: Option<usize>,
-    drawn: Option<Instant>,
+    /// When a line was last drawn.
+    last: Option<Instant>,
+    /// Whether it is still there.
+    there: bool,
 }
 
 impl Progress {
     pub fn new() -> Progress {
-        Progress { columns: columns(&io::stderr()).filter(|_| moves()), drawn: None }
+        Progress { columns: columns(&io::stderr()).filter(|_| moves()), last: None, there: false }
     }
 
     /// While scripts are looked for.
@@ -31,17 +34,18 @@ impl Progress {
 
     fn draw(&mut self, of: usize, line: impl Fn() -> String) {
         let Some(columns) = self.columns.filter(|_| of > FEW) else { return };
-        if self.drawn.is_none_or(|then| then.elapsed() >= PAUSE) {
+        if self.last.is_none_or(|last| last.elapsed() >= PAUSE) {
             // a line that reaches the last column would go on below it
             let line: String = line().chars().take(columns.saturating_sub(1)).collect();
             let _ = write!(io::stderr(), "\r{line}\x1b[K");
-            self.drawn = Some(Instant::now());
+            self.last = Some(Instant::now());
+            self.there = true;
         }
     }
 
-    /// Takes the line away, before something else is printed. The next one is drawn at once.
+    /// Takes the line away, before something else is printed.
     pub fn clear(&mut self) {
-        if self.drawn.take().is_some() {
+        if std::mem::take(&mut self.there) {
             let _ = write!(io::stderr(), "\r\x1b[K");
         }
     }

@@ -51,42 +51,52 @@ pub fn find(names: &[&OsStr], mut found: impl FnMut(usize)) -> Vec<Found> {
     scripts
 }
 
-/// The scripts below a folder, in the order of their names. Links to folders are not followed, so that none is read twice or without end.
+/// What matters of a folder's entries.
+enum Entry {
+    Folder,
+    Script,
+    /// It has a script's name and is no file, as a pipe: a read of it may wait for ever.
+    NoFile,
+}
+
+/// The scripts below a folder, in the order of their names. Links to folders are not followed, so that none is read without end.
 fn below(folder: &Path, scripts: &mut Vec<Found>, found: &mut impl FnMut(usize)) {
-    let mut waiting = vec![(folder.to_path_buf(), true)];
-    while let Some((path, is_folder)) = waiting.pop() {
-        if !is_folder {
-            let trouble = is_other(&path).then(|| "it is no file".to_string());
-            scripts.push(Found { name: path.into(), trouble });
-            found(scripts.len());
-            continue;
-        }
-        match entries(&path) {
-            Ok(mut entries) => {
-                entries.sort_by(|a, b| b.0.as_os_str().cmp(a.0.as_os_str()));
-                waiting.append(&mut entries);
-            }
-            Err(e) => scripts.push(Found { name: path.into(), trouble: Some(why(&e)) }),
-        }
+    let mut waiting = vec![(folder.to_path_buf(), Entry::Folder)];
+    while let Some((path, entry)) = waiting.pop() {
+        let trouble = match entry {
+            Entry::Script => None,
+            Entry::NoFile => Some("it is no file".to_string()),
+            Entry::Folder => match entries(&path) {
+                Ok(mut entries) => {
+                    entries.sort_by(|a, b| b.0.as_os_str().cmp(a.0.as_os_str()));
+                    waiting.append(&mut entries);
+                    continue;
+                }
+                Err(e) => Some(why(&e)),
+            },
+        };
+        scripts.push(Found { name: path.into(), trouble });
+        found(scripts.len());
     }
 }
 
-/// What a folder holds that matters: each script, and each folder.
-fn entries(folder: &Path) -> io::Result<Vec<(PathBuf, bool)>> {
+fn entries(folder: &Path) -> io::Result<Vec<(PathBuf, Entry)>> {
     let mut entries = Vec::new();
     for entry in fs::read_dir(folder)? {
         let entry = entry?;
         let path = entry.path();
         let kind = entry.file_type()?;
-        let leads_to_folder = kind.is_symlink() && path.is_dir();
-        if kind.is_dir() || (path.extension().is_some_and(|e| e == "pyh") && !leads_to_folder) {
-            entries.push((path, kind.is_dir()));
+        if kind.is_dir() {
+            entries.push((path, Entry::Folder));
+        } else if path.extension().is_some_and(|e| e == "pyh") {
+            // what a link leads to; one that leads nowhere is tried and can't be read
+            let end = if kind.is_symlink() { fs::metadata(&path).map(|m| m.file_type()).ok() } else { Some(kind) };
+            match end {
+                Some(end) if end.is_dir() => {}
+                Some(end) if !end.is_file() => entries.push((path, Entry::NoFile)),
+                _ => entries.push((path, Entry::Script)),
+            }
         }
     }
     Ok(entries)
-}
-
-/// Neither a file nor missing, as a pipe is: a read of it may wait for ever.
-fn is_other(path: &Path) -> bool {
-    fs::metadata(path).is_ok_and(|m| !m.is_file())
 }

@@ -2,6 +2,7 @@
 import os
 import sys
 import tempfile
+import traceback
 
 import known
 import streams
@@ -41,7 +42,10 @@ def main():
         for part in (transcripts, known, streams, terminal):
             work = os.path.join(folder, part.__name__)
             os.mkdir(work)
-            part.run(CASES, work, tally)
+            try:
+                part.run(CASES, work, tally)
+            except Exception:
+                tally.case(part.__name__, False, traceback.format_exc())
     print("%d passed, %d failed" % (tally.passed, tally.failed))
     return 1 if tally.failed else 0
 
