@@ -20,6 +20,9 @@ extern "C" {
 /* The longest source that is read, in bytes. */
 #define TARBUCKET_LONGEST 65536u
 
+/* A call needs at most 96 KiB of stack, the caller's own frames and signal handlers aside. Measured by stack/run.sh, not proved. */
+#define TARBUCKET_STACK_BYTES 98304u
+
 /* No node, where a field holds a node number. */
 #define TARBUCKET_NONE 4294967295u
 
@@ -226,7 +229,8 @@ enum {
  * Each length counts the elements behind its pointer. No pointer may be null, also where its length is 0; the slices must not overlap.
  * Accepted: `tokens`, `text` and `tree` hold T + 1 tokens, the decoded strings in the order of their tokens, and the header with N nodes; the rest of
  * each area is 0. Refused by 1 to 5: the three are as they were. Refused by 6 to 14: the three areas are 0. Words behind an area, and words of `answer`
- * behind the sixth, are as they were. Where `answer_len` is below 6, nothing is written anywhere and TARBUCKET_NO_ANSWER is returned. */
+ * behind the sixth, are as they were. Where `answer_len` is below 6, nothing is written anywhere and TARBUCKET_NO_ANSWER is returned.
+ * It needs at most TARBUCKET_STACK_BYTES of stack: think of it where a thread is given a small one. */
 uint32_t tarbucket_parse_source(const uint8_t *src, size_t src_len, uint32_t *tokens, size_t tokens_len,
                                 uint8_t *text, size_t text_len, uint32_t *tree, size_t tree_len,
                                 uint32_t *answer, size_t answer_len);

@@ -33,6 +33,9 @@ pub use tree::{BadTree, List, Node, Tree, Walk};
 /// The longest source that is read, in bytes.
 pub const LONGEST: usize = 65536;
 
+/// A call needs at most so many bytes of stack, the caller's own frames and signal handlers aside. Measured by stack/run.sh, not proved.
+pub const STACK: usize = 98304;
+
 /// No node, where a word holds a node number.
 pub const NONE: u32 = u32::MAX;
 
@@ -79,7 +82,8 @@ pub struct Counts {
     pub openings: u32,
 }
 
-/// Reads a source into lent slices of any length. One that is shorter than its area is refused by 2, 3 or 4, and nothing is written then.
+/// Reads a source into lent slices of any length. One that is shorter than its area is refused by 2, 3 or 4, and nothing is written then. It needs at
+/// most [`STACK`] bytes of stack, which a thread of [`std::thread`] has unless it is given less.
 pub fn parse_source(src: &[u8], tokens: &mut [u32], text: &mut [u8], tree: &mut [u32]) -> Result<Counts, Error> {
     let mut answer = [0u32; 6];
     // The lengths are those of the slices, and no two of them overlap, since all but the source are borrowed as `&mut`. The function is proved to write

@@ -1,0 +1,8 @@
+#!/bin/sh
+# Builds the static library and the driver, and measures the stack of calls over many sources: status 0 exactly if each answer is right and none takes
+# more than the header and the Rust crate promise. Under a minute where the reader is proved already.
+set -eu
+cd "$(dirname "$0")/.."
+rt staticlib ffi
+cargo build --offline --release --quiet --manifest-path stack/Cargo.toml --target-dir target/stack
+exec target/stack/release/stack

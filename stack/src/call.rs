@@ -1,0 +1,73 @@
+//! One call of the library, all that it needs made ready before: the thread does nothing else.
+
+use std::arch::asm;
+use std::ffi::c_void;
+use std::ptr::null_mut;
+
+#[link(name = "ffi", kind = "static")]
+extern "C" {
+    fn tarbucket_parse_source(
+        src: *const u8,
+        src_len: usize,
+        tokens: *mut u32,
+        tokens_len: usize,
+        text: *mut u8,
+        text_len: usize,
+        tree: *mut u32,
+        tree_len: usize,
+        answer: *mut u32,
+        answer_len: usize,
+    ) -> u32;
+}
+
+/// The longest source that is read, in bytes.
+pub const LONGEST: usize = 65_536;
+
+/// A source with its areas, which are exactly as long as they must be.
+pub struct Call {
+    src: Vec<u8>,
+    tokens: Vec<u32>,
+    text: Vec<u8>,
+    tree: Vec<u32>,
+    pub answer: [u32; 6],
+    /// The stack pointer right before the call.
+    pub pointer: usize,
+}
+
+impl Call {
+    /// The same memory serves one source after the other.
+    pub fn new() -> Call {
+        let most = LONGEST + 1;
+        let (tokens, text, tree) =
+            (Vec::with_capacity(3 * (most + 1)), Vec::with_capacity(most), Vec::with_capacity(16 * most + 16));
+        Call { src: Vec::with_capacity(most), tokens, text, tree, answer: [7; 6], pointer: 0 }
+    }
+
+    pub fn take(&mut self, src: &[u8]) {
+        self.src.clear();
+        self.src.extend(src);
+        self.tokens.resize(3 * (src.len() + 1), 7);
+        self.text.resize(src.len(), 7);
+        self.tree.resize(16 * src.len() + 16, 7);
+        self.answer = [7; 6];
+    }
+}
+
+/// What a thread starts with: a `Call`, which nobody else touches until the thread has ended.
+pub unsafe extern "C" fn run(call: *mut c_void) -> *mut c_void {
+    let call = &mut *(call as *mut Call);
+    asm!("mov {}, rsp", out(reg) call.pointer, options(nomem, nostack, preserves_flags));
+    tarbucket_parse_source(
+        call.src.as_ptr(),
+        call.src.len(),
+        call.tokens.as_mut_ptr(),
+        call.tokens.len(),
+        call.text.as_mut_ptr(),
+        call.text.len(),
+        call.tree.as_mut_ptr(),
+        call.tree.len(),
+        call.answer.as_mut_ptr(),
+        6,
+    );
+    null_mut()
+}
