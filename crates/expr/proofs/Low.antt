@@ -12,12 +12,8 @@ use Rattle.pyhyeon.specs.Tables.{least, rank, first, firstE, primary, pyhyeon}
 use Rattle.pyhyeon.specs.Prices.{writes, needs, gives}
 use Rattle.joint.proofs.Bounds.{Bounded}
 use Rattle.joint.proofs.Counts.{Modest}
-use Rattle.expr.specs.Parts.{further, member, name, valued}
+use Rattle.expr.specs.Parts.{member, name, valued}
 use Rattle.pyhyeon.specs.Rules.{E}
-
-pub low-further : T (low pyhyeon 100 100 (many further))
-unfolding low takes least rank
-low-further = tt
 
 pub low-postfix : T (low pyhyeon 100 100 (many postfix))
 unfolding low takes least rank

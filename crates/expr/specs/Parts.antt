@@ -5,19 +5,9 @@ use mathlib.Core.Bool.{Bool, true, false}
 use Rattle.grammar.specs.Grammar.{Part, skip, act, tok, call, _⨾_, _∕_, many, tail}
 use Rattle.token.specs.Code.{LBrace, RBrace, RParen, RBracket, Colon, Comma}
 use Rattle.ast.specs.Kind as kind
-use Rattle.pyhyeon.specs.Action.{Action, mark, named, compare, compare-more, compared, list-one, list-done, enclose, group, tuple, pair, apply, index, lambda}
+use Rattle.pyhyeon.specs.Action.{Action, mark, named, list-one, list-done, enclose, group, tuple, pair, apply, index, lambda}
 use Rattle.pyhyeon.specs.Rules as rules
-use Rattle.pyhyeon.specs.Rules.{Rule, E, S, tk, names, more, list, parameters, entry, rest, comparisons}
-
--- a further comparison; and all of them, after the first operator
-abbrev pub further : Part Action Rule
-further = tok comparisons ⨾ act mark ⨾ call S ⨾ act compare-more
-
-abbrev pub chained : Part Action Rule
-chained = many further ⨾ act compared
-
-abbrev pub compares : Part Action Rule
-compares = call S ⨾ act compare ⨾ chained
+use Rattle.pyhyeon.specs.Rules.{Rule, E, tk, names, more, list, parameters, entry, rest}
 
 -- a member of a list: a pair, or an E; and the rest of such a list
 abbrev pub member : Bool → Part Action Rule

@@ -12,7 +12,7 @@ ghost use Prim.Native.Nat.{_+_, _<_};
 ghost use Rattle.grammar.specs.Sets.{mem};
 ghost use Rattle.grammar.specs.Grammar.{call, many, act, _⨾_, _∕_};
 ghost use Rattle.token.specs.Code.{Eof, String, Dot, LParen, RParen, LBracket};
-ghost use Rattle.pyhyeon.specs.Machine.{token, node, growing, list, chain};
+ghost use Rattle.pyhyeon.specs.Machine.{token, node, growing, list};
 ghost use Rattle.pyhyeon.specs.Rules.{E, O, C, S, P, U, F, entry, postfix};
 ghost use Rattle.pyhyeon.specs.Rules as rules;
 ghost use Rattle.pyhyeon.specs.Tables.{primary, pairsOn, setOn};
@@ -21,7 +21,7 @@ ghost use Rattle.lookahead.specs.Tokens.{symbolAt};
 ghost use Rattle.leaves.specs.Contract.{a-node, a-list, Rules, Parts, Lists, Ready, Begun};
 ghost use Rattle.ast.specs.Kind as kind;
 ghost use Rattle.pyhyeon.specs.Action.{empty};
-ghost use Rattle.expr.specs.Parts.{chained, compares, member, others, closes, enclosed, lambdaOn, lambdaBody, teeOn, valued, pairsRest, tupleRest, roundOn, callOn, indexOn};
+ghost use Rattle.expr.specs.Parts.{member, others, closes, enclosed, lambdaOn, lambdaBody, teeOn, valued, pairsRest, tupleRest, roundOn, callOn, indexOn};
 
 mod comma;
 mod parameters;
@@ -31,6 +31,8 @@ use leaves::Parsed;
 use leaves::State;
 use levels::Before;
 use levels::Behind;
+use levels::Chain;
+use levels::Level;
 pub use parameters::names;
 use token::NodeNumber;
 use token::TokenNumber;
@@ -161,7 +163,7 @@ fn rule_o(src: &[u8], toks: &[u32], tree: &mut [u32], left: u32, s: State) -> Pa
                 let made = levels::joined(toks, tree, before, n, after);
                 let l = made.0;
                 let done = made.1;
-                let behind = levels::look(src, toks, levels::OR, done);
+                let behind = levels::look(src, toks, Level::Or, done);
                 match behind {
                     Behind::Operand(on) => {
                         let op = done.at;
@@ -200,7 +202,7 @@ fn rule_a(src: &[u8], toks: &[u32], tree: &mut [u32], left: u32, s: State) -> Pa
                 let made = levels::joined(toks, tree, before, n, after);
                 let l = made.0;
                 let done = made.1;
-                let behind = levels::look(src, toks, levels::AND, done);
+                let behind = levels::look(src, toks, Level::And, done);
                 match behind {
                     Behind::Operand(on) => {
                         let op = done.at;
@@ -230,105 +232,27 @@ fn rule_c(src: &[u8], toks: &[u32], tree: &mut [u32], left: u32, s: State) -> Pa
         opened: opened,
         used: s.used,
     };
-    let inner = rule_s(src, toks, tree, left, up);
-    match inner {
-        Parsed::Node(n, after) => {
-            let op = after.at;
-            if lookahead::is_comparison(lookahead::symbol_at(src, toks, op)) {
-                let t = op.0 + 1;
-                let on = State {
-                    at: TokenNumber(t),
-                    nodes: after.nodes,
-                    opened: after.opened,
-                    used: after.used,
-                };
-                cmp(src, toks, tree, left, op, n, on)
-            } else {
-                Parsed::Node(n, after)
-            }
-        }
-        Parsed::Refused(code, after) => Parsed::Refused(code, after),
-    }
-}
-
-// The first comparison, after its operator.
-fn cmp(
-    src: &[u8],
-    toks: &[u32],
-    tree: &mut [u32],
-    left: u32,
-    op: TokenNumber,
-    first: NodeNumber,
-    s: State,
-) -> Parsed
-    requires { ⌜ Ready (now src) (now toks) (now tree) s 1 ⌝ }
-    requires { ⌜ (op .0 < s .at .0) × (first .0 < s .nodes) ⌝ }
-    ensures { λ r. ⌜ Parts (now (src .entry)) (now (toks .entry)) left compares (token (op .0) ∷ node (first .0) ∷ []) a-node s (now (tree .entry)) r (now (tree .exit)) ⌝ }
-{
-    let at = s.at;
-    if lookahead::begins_u(lookahead::symbol_at(src, toks, at)) {
-        let right = rule_s(src, toks, tree, left, s);
-        match right {
-            Parsed::Node(n, after) => {
-                let made = expr_leaves::put_binary(toks, tree, op, first, n, after);
-                let m = made.0;
-                let done = made.1;
-                cmps(src, toks, tree, left, m, n, done)
-            }
-            Parsed::Refused(code, after) => Parsed::Refused(code, after),
-        }
-    } else {
-        Parsed::Refused(14, s)
-    }
-}
-
-// The further comparisons: `first` is the node of those so far, `newest` the last operand.
-fn cmps(
-    src: &[u8],
-    toks: &[u32],
-    tree: &mut [u32],
-    left: u32,
-    first: NodeNumber,
-    newest: NodeNumber,
-    s: State,
-) -> Parsed
-    requires { ⌜ Ready (now src) (now toks) (now tree) s 1 ⌝ }
-    requires { ⌜ (first .0 < s .nodes) × (newest .0 < s .nodes) ⌝ }
-    ensures { λ r. ⌜ Parts (now (src .entry)) (now (toks .entry)) left chained (chain (first .0) (newest .0) ∷ []) a-node s (now (tree .entry)) r (now (tree .exit)) ⌝ }
-{
-    let mut l = first;
-    let mut x = newest;
-    let mut st = s;
+    let mut st = up;
+    let mut before = Chain::Nothing;
     loop {
-        let op = st.at;
-        if lookahead::is_comparison(lookahead::symbol_at(src, toks, op)) {
-            let t = op.0 + 1;
-            let next = TokenNumber(t);
-            let on = State {
-                at: next,
-                nodes: st.nodes,
-                opened: st.opened,
-                used: st.used,
-            };
-            if lookahead::begins_u(lookahead::symbol_at(src, toks, next)) {
-                let right = rule_s(src, toks, tree, left, on);
-                match right {
-                    Parsed::Node(r, after) => {
-                        let made = expr_leaves::put_binary(toks, tree, op, x, r, after);
-                        let m = made.0;
-                        let up = made.1;
-                        let joined = expr_leaves::put_and(toks, tree, l, m, up);
-                        l = joined.0;
-                        x = r;
-                        st = joined.1;
+        let inner = rule_s(src, toks, tree, left, st);
+        match inner {
+            Parsed::Node(n, after) => {
+                let made = levels::compared(toks, tree, before, n, after);
+                let l = made.0;
+                let done = made.1;
+                let behind = levels::look(src, toks, Level::Comparison, done);
+                match behind {
+                    Behind::Operand(on) => {
+                        let op = done.at;
+                        before = levels::linked(before, op, l, n);
+                        st = on;
                     }
-                    Parsed::Refused(code, after) => return Parsed::Refused(code, after),
+                    Behind::Nothing => return Parsed::Node(l, done),
+                    Behind::Missing(on) => return Parsed::Refused(14, on),
                 }
-            } else {
-                return Parsed::Refused(14, on);
             }
-        } else {
-            return Parsed::Node(l, st);
+            Parsed::Refused(code, after) => return Parsed::Refused(code, after),
         }
     }
 }
@@ -356,7 +280,7 @@ fn rule_s(src: &[u8], toks: &[u32], tree: &mut [u32], left: u32, s: State) -> Pa
                 let made = levels::joined(toks, tree, before, n, after);
                 let l = made.0;
                 let done = made.1;
-                let behind = levels::look(src, toks, levels::SUM, done);
+                let behind = levels::look(src, toks, Level::Sum, done);
                 match behind {
                     Behind::Operand(on) => {
                         let op = done.at;
@@ -395,7 +319,7 @@ fn rule_p(src: &[u8], toks: &[u32], tree: &mut [u32], left: u32, s: State) -> Pa
                 let made = levels::joined(toks, tree, before, n, after);
                 let l = made.0;
                 let done = made.1;
-                let behind = levels::look(src, toks, levels::PRODUCT, done);
+                let behind = levels::look(src, toks, Level::Product, done);
                 match behind {
                     Behind::Operand(on) => {
                         let op = done.at;

@@ -109,25 +109,14 @@ module _ {src toks : List ℕ} {room : ℕ} {out : Shape} {vs : List Value} {s :
 
 -- A comparison is written as any operator is; what is at hand after it is a chain.
 module _ {src toks tr tr′ : List ℕ} {s : State} {r : Added} {op y : ℕ} where
-  compare-is : {x : ℕ} (vs : List Value) → Writes src toks binary (node y ∷ token op ∷ node x ∷ []) s tr r tr′ →
+  pub compare-is : {x : ℕ} (vs : List Value) → Writes src toks binary (node y ∷ token op ∷ node x ∷ []) s tr r tr′ →
       perform src (tokensOf src toks) compare (kept s tr (node y ∷ token op ∷ node x ∷ vs)) ≡ kept (added s) tr′ (chain (s .nodes) y ∷ vs)
   unfolding perform number
   compare-is {x} vs w = ap (λ (k : Kept). put 1 (chain (length (nodesOf tr (s .nodes))) y) k) (w .same vs) ∙ rw (length-nodes tr (s .nodes))
 
-  compare-more-is : {x first : ℕ} {tr″ : List ℕ} {r′ : Added} (vs : List Value) → Writes src toks binary (node y ∷ token op ∷ node x ∷ []) s tr r tr′ → Joins src toks first (s .nodes) (added s) tr′ r′ tr″ →
+  pub compare-more-is : {x first : ℕ} {tr″ : List ℕ} {r′ : Added} (vs : List Value) → Writes src toks binary (node y ∷ token op ∷ node x ∷ []) s tr r tr′ → Joins src toks first (s .nodes) (added s) tr′ r′ tr″ →
       perform src (tokensOf src toks) compare-more (kept s tr (node y ∷ token op ∷ chain first x ∷ vs)) ≡ kept (added (added s)) tr″ (chain (s .nodes + 1) y ∷ vs)
   unfolding perform number operand
   compare-more-is {x} {first} vs w j =
       ap (λ (k : Kept). put 1 (chain (length (nodesOf tr (s .nodes)) + 1) y) (binaryOf src (tokensOf src toks) 1 (binaryOp code.And) first (length (nodesOf tr (s .nodes))) k)) (w .same vs)
       ∙ rw (length-nodes tr (s .nodes)) (ap (λ (k : Kept). put 1 (chain (s .nodes + 1) y) k) (j .same (node (s .nodes)) vs))
-
-module _ {src toks : List ℕ} {room : ℕ} {out : Shape} {vs ws : List Value} {s : State} {tr tr′ : List ℕ} {q : Part Action Rule} {a : Parsed} {t : List ℕ} {op x y : ℕ} {r : Added} where
-  pub compare-then : Writes src toks binary (node y ∷ token op ∷ node x ∷ []) s tr r tr′ → Comes src toks room q out vs (chain (r .0 .0) y ∷ ws) (r .1) tr′ a t →
-      Comes src toks room (act compare ⨾ q) out vs (node y ∷ token op ∷ node x ∷ ws) s tr a t
-  compare-then w c = act-then (compare-is ws w) refl refl (w .frame) (rw (w .after, w .node) at c)
-
-  pub further-then : {n : ℕ} {tr″ : List ℕ} {r′ : Added} → Writes src toks binary (node y ∷ token op ∷ node x ∷ []) s tr r tr′ → Joins src toks n (r .0 .0) (r .1) tr′ r′ tr″ →
-      Comes src toks room q out vs (chain (r′ .0 .0) y ∷ ws) (r′ .1) tr″ a t → Comes src toks room (act compare-more ⨾ q) out vs (node y ∷ token op ∷ chain n x ∷ ws) s tr a t
-  further-then {n} {tr″} {r′} w j c =
-      let j₂ : Joins src toks n (s .nodes) (added s) tr′ r′ tr″ = rw (w .after, w .node) at j in
-      act-then {s′ = added (added s)} (compare-more-is ws w j₂) refl refl (frame-then (w .frame) (j₂ .frame)) (rw (j₂ .after, j₂ .node) at c)

@@ -5,7 +5,7 @@ use Rattle.pyhyeon.specs.Tables.{firstU}
 use Rattle.lookahead.proofs.Tests.{learnt}
 use Rattle.lookahead.proofs.Tokens.{took}
 use Rattle.levels.specs.Levels.{operators}
-use Rattle.levels.proofs.Grouping.{no-eof, no-string}
+use Rattle.levels.proofs.Operators.{no-eof, no-string}
 use Rattle.levels.proofs.Standing.{stands-nothing, stands-operand, stands-missing}
 use Rattle.levels.proofs.look.Statement.{statement}
 use Rattle.levels.proofs.look.Tie as tie
