@@ -350,7 +350,7 @@ fn rule_u(src: &[u8], toks: &[u32], tree: &mut [u32], left: u32, s: State) -> Pa
         opened: opened,
         used: s.used,
     };
-    if lookahead::begins_f(lookahead::symbol_at(src, toks, end)) {
+    if lookahead::behind_signs(src, toks, first, end) {
         let inner = rule_f(src, toks, tree, left, on);
         match inner {
             Parsed::Node(n, after) => {

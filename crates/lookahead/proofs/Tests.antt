@@ -40,3 +40,12 @@ of-first (y ∷ a) b c e f = go (eqb c y) f (of-first a b c e)
     go : (x : Bool) → (x || mem c (a ++ b)) ≡ true → (mem c (a ++ b) ≡ true → mem c a ≡ true) → (x || mem c a) ≡ true
     go true f g = refl
     go false f g = g f
+
+-- and one that is not of the first is of the second
+pub of-second : (a b : List ℕ) (c : ℕ) → mem c a ≡ false → mem c (a ++ b) ≡ true → mem c b ≡ true
+of-second [] b c e f = f
+of-second (y ∷ a) b c e f = go (eqb c y) e f (of-second a b c)
+  where
+    go : (x : Bool) → (x || mem c a) ≡ false → (x || mem c (a ++ b)) ≡ true → (mem c a ≡ false → mem c (a ++ b) ≡ true → mem c b ≡ true) → mem c b ≡ true
+    go true e f g = let z : _≡_ {A = ℕ} 0 1 = cc in absurd (omega arith)
+    go false e f g = g e f

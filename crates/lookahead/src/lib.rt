@@ -20,6 +20,7 @@ pub use sets::is_multiply;
 pub use sets::is_name;
 pub use sets::is_sign;
 pub use sets::is_symbol;
+pub use skip::behind_signs;
 pub use skip::skip_newlines;
 pub use skip::skip_signs;
 

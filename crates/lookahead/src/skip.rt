@@ -1,10 +1,15 @@
 // Runs of tokens that are passed one by one: the Newlines around a Line, and the signs of U.
+ghost use mathlib.Core.Path.{_≡_};
+ghost use mathlib.Core.Bool.{true};
 ghost use mathlib.Core.List.{[], _∷_};
 ghost use Prim.Native.Nat.{_≤_};
+ghost use Rattle.grammar.specs.Sets.{mem};
 ghost use Rattle.token.specs.Code.{Newline};
-ghost use Rattle.lookahead.specs.Tokens.{eofAt, Tokens};
+ghost use Rattle.pyhyeon.specs.Tables.{firstF, firstU};
+ghost use Rattle.lookahead.specs.Tokens.{eofAt, symbolAt, Tokens};
 ghost use Rattle.lookahead.specs.Run.{Run, signSet};
 use crate::read::symbol_at;
+use crate::sets::begins_f;
 use crate::sets::is_sign;
 use crate::sets::is_symbol;
 use token::TokenNumber;
@@ -35,4 +40,18 @@ pub fn skip_signs(src: &[u8], toks: &[u32], at: TokenNumber) -> TokenNumber
         t = TokenNumber(k + 1);
     }
     t
+}
+
+// Whether the token `end`, behind the signs of a U that begins at `first`, can begin F. Without signs it can, and is not asked.
+pub fn behind_signs(src: &[u8], toks: &[u32], first: TokenNumber, end: TokenNumber) -> bool
+    requires { ⌜ Tokens (now src) (now toks) ⌝ }
+    requires { ⌜ mem (symbolAt (now src) (now toks) (first .0)) firstU ≡ true ⌝ }
+    requires { ⌜ Run (now src) (now toks) signSet (first .0) (end .0) ⌝ }
+    ensures { λ r. ⌜ r ≡ mem (symbolAt (now (src .entry)) (now (toks .entry)) (end .0)) firstF ⌝ }
+{
+    if first.0 == end.0 {
+        true
+    } else {
+        begins_f(symbol_at(src, toks, end))
+    }
 }
