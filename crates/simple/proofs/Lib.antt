@@ -1,2 +1,5 @@
 pub mod Newest
 pub mod Low
+pub mod Stating
+pub mod Gathering
+pub mod OneLine

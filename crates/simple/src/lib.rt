@@ -2,19 +2,36 @@
 // written for it, so the last statement of simples is the last node (`Newest`, `a-growing`).
 ghost use mathlib.Core.Path.{_≡_};
 ghost use mathlib.Core.List.{List, [], _∷_};
-ghost use Prim.Native.Nat.{ℕ, _+_, _-_, _<_, _≤_};
+ghost use Prim.Native.Nat.{ℕ, _+_, _-_, _*_, _<_, _≤_};
+ghost use lib.ListN.{length};
 ghost use Rattle.grammar.specs.Grammar.{act};
 ghost use Rattle.pyhyeon.specs.Action.{alone};
-ghost use Rattle.pyhyeon.specs.Machine.{token, node, growing};
+ghost use Rattle.pyhyeon.specs.Machine.{node, growing};
 ghost use Rattle.pyhyeon.specs.Rules.{Simple};
 ghost use Rattle.pyhyeon.specs.Rules as rules;
 ghost use Rattle.lookahead.specs.Tokens.{eofAt, textBefore, Tokens};
-ghost use Rattle.leaves.specs.Contract.{a-node, a-growing, Rules, Parts, Ready, Begun, Spot};
-ghost use Rattle.simple.specs.Parts.{Newest, returnOn, targetOn, valueOn, simplesOn, lineEnd};
+ghost use Rattle.leaves.specs.Contract.{a-node, a-growing, Rules, Parts, Ready, Begun, Spot, Writes};
+ghost use Rattle.simple.specs.Parts.{Newest, lineEnd};
+ghost use Rattle.simple.specs.Roles.{stated, hand, does, targets, Placed};
+ghost use Rattle.simple.specs.Lists.{Held, Joined};
+use leaves::Added;
 use leaves::Parsed;
 use leaves::State;
 use token::NodeNumber;
 use token::TokenNumber;
+
+// What a t is to its statement: what the Return of the token `keyword` gives; its first t, which may be a target; or the value of the target `first`.
+enum Role {
+    Return(TokenNumber),
+    First,
+    Value(NodeNumber),
+}
+
+// What stands before a statement: nothing, or a list in the making, by its first node and its last.
+pub enum Before {
+    Nothing,
+    List(NodeNumber, NodeNumber),
+}
 
 // Simple: return t; t = t; t; break; continue; pass.
 pub fn rule_simple(src: &[u8], toks: &[u32], tree: &mut [u32], left: u32, s: State) -> Parsed
@@ -26,25 +43,31 @@ pub fn rule_simple(src: &[u8], toks: &[u32], tree: &mut [u32], left: u32, s: Sta
     let at = s.at;
     let opened = s.opened + 1;
     let t = at.0 + 1;
+    let up = State {
+        at: at,
+        nodes: s.nodes,
+        opened: opened,
+        used: s.used,
+    };
     let on = State {
         at: TokenNumber(t),
         nodes: s.nodes,
         opened: opened,
         used: s.used,
     };
-    match lookahead::symbol_at(src, toks, at) {
-        token::RETURN => returned(src, toks, tree, left, at, on),
+    let symbol = lookahead::symbol_at(src, toks, at);
+    match symbol {
         token::BREAK => word(toks, tree, ast::BREAK, on),
         token::CONTINUE => word(toks, tree, ast::CONTINUE, on),
         token::PASS => word(toks, tree, ast::PASS, on),
         _ => {
-            let up = State {
-                at: at,
-                nodes: s.nodes,
-                opened: opened,
-                used: s.used,
-            };
-            assignment(src, toks, tree, left, up)
+            let mut role = Role::First;
+            let mut st = up;
+            if symbol == token::RETURN {
+                role = Role::Return(at);
+                st = on;
+            }
+            statement(src, toks, tree, left, role, st)
         }
     }
 }
@@ -61,85 +84,65 @@ fn word(toks: &[u32], tree: &mut [u32], kind: u32, s: State) -> Parsed
     Parsed::Node(n, after)
 }
 
-// After `return`, the token `keyword`.
-fn returned(
-    src: &[u8],
-    toks: &[u32],
-    tree: &mut [u32],
-    left: u32,
-    keyword: TokenNumber,
-    s: State,
-) -> Parsed
+// A statement from its t on, whose role is `what`: behind a target the value is read next.
+fn statement(src: &[u8], toks: &[u32], tree: &mut [u32], left: u32, what: Role, s: State) -> Parsed
     requires { ⌜ Ready (now src) (now toks) (now tree) s 3 ⌝ }
-    requires { ⌜ keyword .0 < s .at .0 ⌝ }
-    ensures { λ r. ⌜ Parts (now (src .entry)) (now (toks .entry)) left returnOn (token (keyword .0) ∷ []) a-node s (now (tree .entry)) r (now (tree .exit)) ⌝ }
+    requires { ⌜ Placed what s ⌝ }
+    ensures { λ r. ⌜ Parts (now (src .entry)) (now (toks .entry)) left (stated what) (hand what) a-node s (now (tree .entry)) r (now (tree .exit)) ⌝ }
     ensures { λ r. ⌜ Newest r ⌝ }
 {
-    let inner = expr::comma_list(src, toks, tree, left, s);
-    match inner {
-        Parsed::Node(n, after) => {
-            let made = stmt_leaves::put_return(toks, tree, keyword, n, after);
-            let m = made.0;
-            let done = made.1;
-            Parsed::Node(m, done)
-        }
-        Parsed::Refused(code, after) => Parsed::Refused(code, after),
-    }
-}
-
-// A target and its value, or an expression alone.
-fn assignment(src: &[u8], toks: &[u32], tree: &mut [u32], left: u32, s: State) -> Parsed
-    requires { ⌜ Ready (now src) (now toks) (now tree) s 3 ⌝ }
-    ensures { λ r. ⌜ Parts (now (src .entry)) (now (toks .entry)) left targetOn [] a-node s (now (tree .entry)) r (now (tree .exit)) ⌝ }
-    ensures { λ r. ⌜ Newest r ⌝ }
-{
-    let inner = expr::comma_list(src, toks, tree, left, s);
-    match inner {
-        Parsed::Node(n, after) => {
-            let at = after.at;
-            if lookahead::is_symbol(lookahead::symbol_at(src, toks, at), token::EQUAL) {
-                let t = at.0 + 1;
-                let on = State {
-                    at: TokenNumber(t),
-                    nodes: after.nodes,
-                    opened: after.opened,
-                    used: after.used,
-                };
-                value(src, toks, tree, left, n, on)
-            } else {
-                let made = stmt_leaves::put_expr(toks, tree, n, after);
-                let m = made.0;
-                let done = made.1;
-                Parsed::Node(m, done)
+    let mut role = what;
+    let mut st = s;
+    loop {
+        let inner = expr::comma_list(src, toks, tree, left, st);
+        match inner {
+            Parsed::Node(n, after) => {
+                let at = after.at;
+                if is_target(src, toks, role, at) {
+                    let t = at.0 + 1;
+                    let on = State {
+                        at: TokenNumber(t),
+                        nodes: after.nodes,
+                        opened: after.opened,
+                        used: after.used,
+                    };
+                    role = Role::Value(n);
+                    st = on;
+                } else {
+                    let made = put(toks, tree, role, n, after);
+                    let m = made.0;
+                    let done = made.1;
+                    return Parsed::Node(m, done);
+                }
             }
+            Parsed::Refused(code, after) => return Parsed::Refused(code, after),
         }
-        Parsed::Refused(code, after) => Parsed::Refused(code, after),
     }
 }
 
-// The value of the target `first`, after `=`.
-fn value(
-    src: &[u8],
-    toks: &[u32],
-    tree: &mut [u32],
-    left: u32,
-    first: NodeNumber,
-    s: State,
-) -> Parsed
-    requires { ⌜ Ready (now src) (now toks) (now tree) s 3 ⌝ }
-    requires { ⌜ first .0 < s .nodes ⌝ }
-    ensures { λ r. ⌜ Parts (now (src .entry)) (now (toks .entry)) left valueOn (node (first .0) ∷ []) a-node s (now (tree .entry)) r (now (tree .exit)) ⌝ }
-    ensures { λ r. ⌜ Newest r ⌝ }
+// Whether a t of this role that ends at the token `at` is a target.
+fn is_target(src: &[u8], toks: &[u32], role: Role, at: TokenNumber) -> bool
+    requires { ⌜ Tokens (now src) (now toks) ⌝ }
+    requires { ⌜ at .0 ≤ eofAt (now toks) ⌝ }
+    ensures { λ r. ⌜ r ≡ targets (now (src .entry)) (now (toks .entry)) (at .0) role ⌝ }
 {
-    let inner = expr::comma_list(src, toks, tree, left, s);
-    match inner {
-        Parsed::Node(n, after) => {
-            let made = stmt_leaves::put_assign(toks, tree, first, n, after);
-            let m = made.0;
-            let done = made.1;
-            Parsed::Node(m, done)
-        }
-        Parsed::Refused(code, after) => Parsed::Refused(code, after),
+    match role {
+        Role::Return(_) => false,
+        Role::First => lookahead::is_symbol(lookahead::symbol_at(src, toks, at), token::EQUAL),
+        Role::Value(_) => false,
+    }
+}
+
+// The statement whose last t is the node n.
+fn put(toks: &[u32], tree: &mut [u32], role: Role, n: NodeNumber, s: State) -> Added
+    requires { ⌜ Spot (now toks) (now tree) s ⌝ }
+    requires { ⌜ Placed role s × (n .0 < s .nodes) ⌝ }
+    ensures { λ r. ⌜ ((src : List ℕ) → Writes src (now (toks .entry)) (does role) (node (n .0) ∷ hand role) s (now (tree .entry)) r (now (tree .exit))) ⌝ }
+{
+    match role {
+        Role::Return(keyword) => stmt_leaves::put_return(toks, tree, keyword, n, s),
+        Role::First => stmt_leaves::put_expr(toks, tree, n, s),
+        Role::Value(first) => stmt_leaves::put_assign(toks, tree, first, n, s),
     }
 }
 
@@ -150,57 +153,55 @@ pub fn simples(src: &[u8], toks: &[u32], tree: &mut [u32], left: u32, s: State) 
 {
     let at = s.at;
     if lookahead::begins_simple(lookahead::symbol_at(src, toks, at)) {
-        let inner = rule_simple(src, toks, tree, left, s);
-        match inner {
-            Parsed::Node(n, after) => simples_rest(src, toks, tree, left, n, after),
-            Parsed::Refused(code, after) => Parsed::Refused(code, after),
+        let mut before = Before::Nothing;
+        let mut st = s;
+        loop {
+            let inner = rule_simple(src, toks, tree, left, st);
+            match inner {
+                Parsed::Node(n, after) => {
+                    let first = joined(tree, before, n, after);
+                    let end = after.at;
+                    if lookahead::is_symbol(
+                        lookahead::symbol_at(src, toks, end),
+                        token::SEMICOLON,
+                    ) {
+                        let t = end.0 + 1;
+                        let next = TokenNumber(t);
+                        let on = State {
+                            at: next,
+                            nodes: after.nodes,
+                            opened: after.opened,
+                            used: after.used,
+                        };
+                        if lookahead::begins_simple(lookahead::symbol_at(src, toks, next)) {
+                            before = Before::List(first, n);
+                            st = on;
+                        } else {
+                            return line_end(src, toks, first, on);
+                        }
+                    } else {
+                        return line_end(src, toks, first, after);
+                    }
+                }
+                Parsed::Refused(code, after) => return Parsed::Refused(code, after),
+            }
         }
     } else {
         Parsed::Refused(14, s)
     }
 }
 
-// After the first Simple.
-fn simples_rest(
-    src: &[u8],
-    toks: &[u32],
-    tree: &mut [u32],
-    left: u32,
-    first: NodeNumber,
-    s: State,
-) -> Parsed
-    requires { ⌜ Ready (now src) (now toks) (now tree) s 1 ⌝ }
-    requires { ⌜ first .0 + 1 ≡ s .nodes ⌝ }
-    ensures { λ r. ⌜ Parts (now (src .entry)) (now (toks .entry)) left simplesOn (growing (first .0) (first .0) ∷ []) a-growing s (now (tree .entry)) r (now (tree .exit)) ⌝ }
+// The list that begins at the node n, behind what stands before it: the first node of both.
+pub fn joined(tree: &mut [u32], before: Before, n: NodeNumber, s: State) -> NodeNumber
+    requires { ⌜ 8 * s .nodes + 8 ≤ length (now tree) ⌝ }
+    requires { ⌜ Held before s ⌝ }
+    ensures { λ r. ⌜ ((src toks : List ℕ) → Joined src toks before n s (now (tree .entry)) r (now (tree .exit))) ⌝ }
 {
-    let mut last = first;
-    let mut st = s;
-    loop {
-        let at = st.at;
-        if lookahead::is_symbol(lookahead::symbol_at(src, toks, at), token::SEMICOLON) {
-            let t = at.0 + 1;
-            let next = TokenNumber(t);
-            let on = State {
-                at: next,
-                nodes: st.nodes,
-                opened: st.opened,
-                used: st.used,
-            };
-            if lookahead::begins_simple(lookahead::symbol_at(src, toks, next)) {
-                let inner = rule_simple(src, toks, tree, left, on);
-                match inner {
-                    Parsed::Node(n, after) => {
-                        leaves::link(tree, last, n, after);
-                        last = n;
-                        st = after;
-                    }
-                    Parsed::Refused(code, after) => return Parsed::Refused(code, after),
-                }
-            } else {
-                return line_end(src, toks, first, on);
-            }
-        } else {
-            return line_end(src, toks, first, st);
+    match before {
+        Before::Nothing => n,
+        Before::List(first, last) => {
+            leaves::link(tree, last, n, s);
+            first
         }
     }
 }

@@ -1,20 +1,35 @@
 -- `simple::rule_simple` meets its contract: the rule Simple.
 -- Assumes nothing.
-use Rattle.joint.proofs.Loops.{ready-of}
-use Rattle.joint.proofs.Ends.{tok-mark}
-use Rattle.joint.proofs.Chain.{open-plain, tok-then, or-first, or-next}
-use Rattle.lookahead.proofs.Tests.{coded, not-first}
-use Rattle.lookahead.proofs.Tokens.{took}
-use Rattle.pyhyeon.specs.Tables.{joined, first, opens, firstE}
-use Rattle.pyhyeon.specs.Rules.{plain}
-use Rattle.grammar.specs.Descent.{null, begins}
-use Rattle.token.specs.Code as code
-use native.Mathlib.Omega.{arith}
 use mathlib.Core.Path.{refl, sym, _∙_}
+use mathlib.Core.Logic.{⊎-elim}
 use mathlib.Core.List.{[], _∷_}
+use native.Mathlib.Omega.{arith}
+use Rattle.token.specs.Code as code
+use Rattle.grammar.specs.Descent.{null, begins}
+use Rattle.pyhyeon.specs.Rules.{plain}
+use Rattle.pyhyeon.specs.Tables.{joined, first, opens, firstE}
+use Rattle.lookahead.proofs.Tests.{coded}
+use Rattle.lookahead.proofs.Tokens.{took}
+use Rattle.joint.proofs.Chain.{open-plain, tok-then, or-first, or-next}
+use Rattle.simple.proofs.Stating.{Opening, opening-return, opening-other}
 use borrow.Author.Needs.{needs}
 use Rattle.simple.proofs.rule_simple.Statement.{statement}
 use Rattle.simple.proofs.rule_simple.Tie as tie
+
+-- where the arms meet: the first t's role, and the state there
+opening : (c : tie.Joined1) → let at-start = c .before .before .before .before .before .before .before .before .before in Opening (at-start .args .src .now) (at-start .args .toks .now) (at-start .args .s) (at-start .args .tree .now) (c .if1 .role) (c .if1 .st)
+unfolding first
+opening c =
+    let at-match = c .before in
+    let at-symbol-at = at-match .before in
+    let at-start = at-symbol-at .before .before .before .before .before .before .before in
+    let r = at-start .pre .0 in
+    let x = at-symbol-at .symbol-at .ensures in
+    let q = at-match .match .rest in
+    ⊎-elim
+    (λ w. rw (w .1, w .2) (opening-return r (coded (code.Return ∷ []) 8 x (w .0 .taken) refl)))
+    (λ w. rw (w .1, w .2) (opening-other r x (w .0 .left) (q .0 .0 .1) (q .0 .1) (q .1) (at-start .pre .1 .seen)))
+    (c .if1 .came)
 
 add-opened : tie.Need-add-opened
 add-opened c =
@@ -33,23 +48,13 @@ symbol-at-requires c κs =
     let at-start = c .before .before .before .before .before .before in
     (at-start .pre .0 .tokens, at-start .pre .0 .here)
 
-returned-requires : tie.Need-returned-requires
-returned-requires c κs =
-    let at-match = c .before in
-    let at-symbol-at = at-match .before in
-    let at-start = at-symbol-at .before .before .before .before .before .before .before in
-    let r = at-start .pre .0 in
-    let e = coded (code.Return ∷ []) 8 (at-symbol-at .symbol-at .ensures) (at-match .match .keys1) refl in
-    let l = took (code.Return ∷ []) refl refl (r .tokens) (r .here) e in
-    (ready-of (r .tokens) (omega arith), omega arith)
-
 word-requires : tie.Need-word-requires
 word-requires c κs =
     let at-match = c .before in
     let at-symbol-at = at-match .before in
     let at-start = at-symbol-at .before .before .before .before .before .before .before in
     let r = at-start .pre .0 in
-    let e = coded (code.Break ∷ []) 13 (at-symbol-at .symbol-at .ensures) (at-match .match .keys2) refl in
+    let e = coded (code.Break ∷ []) 13 (at-symbol-at .symbol-at .ensures) (at-match .match .keys1) refl in
     let l = took (code.Break ∷ []) refl refl (r .tokens) (r .here) e in
     omega arith
 
@@ -59,7 +64,7 @@ word-requires-2 c κs =
     let at-symbol-at = at-match .before in
     let at-start = at-symbol-at .before .before .before .before .before .before .before in
     let r = at-start .pre .0 in
-    let e = coded (code.Continue ∷ []) 14 (at-symbol-at .symbol-at .ensures) (at-match .match .keys3) refl in
+    let e = coded (code.Continue ∷ []) 14 (at-symbol-at .symbol-at .ensures) (at-match .match .keys2) refl in
     let l = took (code.Continue ∷ []) refl refl (r .tokens) (r .here) e in
     omega arith
 
@@ -69,15 +74,14 @@ word-requires-3 c κs =
     let at-symbol-at = at-match .before in
     let at-start = at-symbol-at .before .before .before .before .before .before .before in
     let r = at-start .pre .0 in
-    let e = coded (code.Pass ∷ []) 15 (at-symbol-at .symbol-at .ensures) (at-match .match .keys4) refl in
+    let e = coded (code.Pass ∷ []) 15 (at-symbol-at .symbol-at .ensures) (at-match .match .keys3) refl in
     let l = took (code.Pass ∷ []) refl refl (r .tokens) (r .here) e in
     omega arith
 
-assignment-requires : tie.Need-assignment-requires
-assignment-requires c κs =
-    let at-start = c .before .before .before .before .before .before .before .before .before in
-    let r = at-start .pre .0 in
-    ready-of (r .tokens) (omega arith)
+statement-requires : tie.Need-statement-requires
+statement-requires c κs =
+    let o = opening (c .before) in
+    (o .ready, o .placed)
 
 same-length : tie.Need-same-length
 same-length c = search needs
@@ -85,20 +89,6 @@ same-length c = search needs
 returns : tie.Need-returns
 unfolding joined plain first begins null opens
 returns c =
-    let at-returned = c .before .before in
-    let at-match = at-returned .before .before in
-    let at-symbol-at = at-match .before in
-    let at-start = at-symbol-at .before .before .before .before .before .before .before in
-    let h = at-start .pre .0 .here in
-    let e = coded (code.Return ∷ []) 8 (at-symbol-at .symbol-at .ensures) (at-match .match .keys1) refl in
-    (open-plain refl (λ vs. or-first h e (tok-mark h e (at-returned .returned .ensures .0 .comes vs))), at-returned .returned .ensures .1)
-
-same-length-2 : tie.Need-same-length-2
-same-length-2 c = search needs
-
-returns-2 : tie.Need-returns-2
-unfolding joined plain first begins null opens
-returns-2 c =
     let at-word = c .before .before in
     let at-match = at-word .before .before in
     let at-symbol-at = at-match .before in
@@ -106,18 +96,18 @@ returns-2 c =
     let r = at-start .pre .0 in
     let h = r .here in
     let x = at-symbol-at .symbol-at .ensures in
-    let k = at-match .match .keys2 in
+    let k = at-match .match .keys1 in
     let e = coded (code.Break ∷ []) 13 x k refl in
     let l = took (code.Break ∷ []) refl refl (r .tokens) h e in
     let word = at-word .word .ensures in
     (open-plain refl (λ vs. or-next h (coded (code.Return ∷ []) 13 x k refl) (or-next h (coded firstE 13 x k refl) (or-first h e (tok-then h e (word .0 _ _ (r .used ∙ sym (l .text)) .comes vs))))), word .1)
 
-same-length-3 : tie.Need-same-length-3
-same-length-3 c = search needs
+same-length-2 : tie.Need-same-length-2
+same-length-2 c = search needs
 
-returns-3 : tie.Need-returns-3
+returns-2 : tie.Need-returns-2
 unfolding joined plain first begins null opens
-returns-3 c =
+returns-2 c =
     let at-word2 = c .before .before in
     let at-match = at-word2 .before .before in
     let at-symbol-at = at-match .before in
@@ -125,18 +115,18 @@ returns-3 c =
     let r = at-start .pre .0 in
     let h = r .here in
     let x = at-symbol-at .symbol-at .ensures in
-    let k = at-match .match .keys3 in
+    let k = at-match .match .keys2 in
     let e = coded (code.Continue ∷ []) 14 x k refl in
     let l = took (code.Continue ∷ []) refl refl (r .tokens) h e in
     let word = at-word2 .word2 .ensures in
     (open-plain refl (λ vs. or-next h (coded (code.Return ∷ []) 14 x k refl) (or-next h (coded firstE 14 x k refl) (or-next h (coded (code.Break ∷ []) 14 x k refl) (or-first h e (tok-then h e (word .0 _ _ (r .used ∙ sym (l .text)) .comes vs)))))), word .1)
 
-same-length-4 : tie.Need-same-length-4
-same-length-4 c = search needs
+same-length-3 : tie.Need-same-length-3
+same-length-3 c = search needs
 
-returns-4 : tie.Need-returns-4
+returns-3 : tie.Need-returns-3
 unfolding joined plain first begins null opens
-returns-4 c =
+returns-3 c =
     let at-word3 = c .before .before in
     let at-match = at-word3 .before .before in
     let at-symbol-at = at-match .before in
@@ -144,27 +134,22 @@ returns-4 c =
     let r = at-start .pre .0 in
     let h = r .here in
     let x = at-symbol-at .symbol-at .ensures in
-    let k = at-match .match .keys4 in
+    let k = at-match .match .keys3 in
     let e = coded (code.Pass ∷ []) 15 x k refl in
     let l = took (code.Pass ∷ []) refl refl (r .tokens) h e in
     let word = at-word3 .word3 .ensures in
     (open-plain refl (λ vs. or-next h (coded (code.Return ∷ []) 15 x k refl) (or-next h (coded firstE 15 x k refl) (or-next h (coded (code.Break ∷ []) 15 x k refl) (or-next h (coded (code.Continue ∷ []) 15 x k refl) (tok-then h e (word .0 _ _ (r .used ∙ sym (l .text)) .comes vs)))))), word .1)
 
-same-length-5 : tie.Need-same-length-5
-same-length-5 c = search needs
+same-length-4 : tie.Need-same-length-4
+same-length-4 c = search needs
 
-returns-5 : tie.Need-returns-5
-unfolding joined plain first begins null opens
-returns-5 c =
-    let at-assignment = c .before .before in
-    let at-match = at-assignment .before .before in
-    let at-symbol-at = at-match .before in
-    let at-start = at-symbol-at .before .before .before .before .before .before .before in
-    let h = at-start .pre .0 .here in
-    let x = at-symbol-at .symbol-at .ensures in
-    let q = at-match .match .rest in
-    let n = not-first 8 (code.Break ∷ code.Continue ∷ code.Pass ∷ firstE) x (q .0 .0 .0 .1) ∙ not-first 13 (code.Continue ∷ code.Pass ∷ firstE) x (q .0 .0 .1) ∙ not-first 14 (code.Pass ∷ firstE) x (q .0 .1) ∙ not-first 15 firstE x (q .1) in
-    (open-plain refl (λ vs. or-next h (not-first 8 [] x (q .0 .0 .0 .1)) (or-first h (sym n ∙ at-start .pre .1 .seen) (at-assignment .assignment .ensures .0 .comes vs))), at-assignment .assignment .ensures .1)
+returns-4 : tie.Need-returns-4
+unfolding first opens
+returns-4 c =
+    let at-statement = c .before .before in
+    let o = opening (at-statement .before .before) in
+    let m = at-statement .statement .ensures in
+    (open-plain refl (λ vs. o .same vs (m .0 .comes vs)), m .1)
 
 pub rule-simple-spec : {M : Type 1} → statement M
 rule-simple-spec =
@@ -173,11 +158,10 @@ rule-simple-spec =
     add-opened
     add-t
     symbol-at-requires
-    returned-requires
     word-requires
     word-requires-2
     word-requires-3
-    assignment-requires
+    statement-requires
     same-length
     returns
     same-length-2
@@ -185,6 +169,4 @@ rule-simple-spec =
     same-length-3
     returns-3
     same-length-4
-    returns-4
-    same-length-5
-    returns-5)
+    returns-4)

@@ -1,94 +1,221 @@
 -- `simple::simples` meets its contract: the statements of one line.
 -- Assumes nothing.
-use Rattle.joint.proofs.Counts.{came-rule, pays-simple}
-use Rattle.joint.proofs.Loops.{ready-of}
-use Rattle.joint.proofs.Ends.{one-then}
-use Rattle.joint.proofs.Chain.{called, not-called, part-then, part-stop}
-use Rattle.lookahead.proofs.Tests.{learnt}
-use Rattle.lookahead.proofs.Tokens.{before-eof}
-use Rattle.pyhyeon.specs.Tables.{first, firstSimple, rank}
+use mathlib.Core.Path.{refl, sym, _∙_}
+use mathlib.Core.List.{[], _∷_}
+use Prim.Native.Nat.{_-_}
 use native.Mathlib.Omega.{arith}
-use mathlib.Core.Path.{refl}
+use Rattle.token.specs.Code as code
+use Rattle.pyhyeon.specs.Tables.{first, firstSimple}
+use Rattle.lookahead.specs.Tokens.{eofAt}
+use Rattle.lookahead.proofs.Tests.{learnt}
+use Rattle.joint.proofs.Chain.{part-stop, not-called}
+use Rattle.simple.proofs.Gathering.{gathering-starts}
+use Rattle.simple.proofs.OneLine.{item, Reading, simples-stop, simples-came, simples-room, simples-held, simples-took, simples-end, simples-shut, simples-goes}
 use borrow.Author.Needs.{needs}
 use Rattle.simple.proofs.simples.Statement.{statement}
 use Rattle.simple.proofs.simples.Tie as tie
 
-symbol-at-requires : tie.Need-symbol-at-requires
+abbrev Inv-loop : tie.InvT-loop
+Inv-loop src toks tree₀ left before₀ st₀ tree before st = Reading src toks left st₀ tree₀ before st tree
+
+abbrev μ-loop : tie.MeasureT-loop
+μ-loop src toks tree₀ left before₀ st₀ tree before st = eofAt toks - st .at .0
+
+symbol-at-requires : tie.Need-symbol-at-requires Inv-loop μ-loop
 symbol-at-requires c κs =
     let at-start = c .before .before .before .before in
     (at-start .pre .tokens, at-start .pre .here)
 
-begins-simple-requires : tie.Need-begins-simple-requires
+begins-simple-requires : tie.Need-begins-simple-requires Inv-loop μ-loop
 begins-simple-requires c κs = search needs
 
-rule-simple-requires : tie.Need-rule-simple-requires
+loop-holds : tie.Need-loop-holds Inv-loop μ-loop
 unfolding first
-rule-simple-requires c κs =
-    let at-if1 = c .before in
-    let at-begins-simple = at-if1 .before in
+loop-holds c =
+    let at-begins-simple = c .before in
     let at-symbol-at = at-begins-simple .before in
     let at-start = at-symbol-at .before .before .before .before .before in
-    let b = learnt firstSimple (at-if1 .if1 .taken) (at-begins-simple .begins-simple .ensures) (at-symbol-at .symbol-at .ensures) in
-    (at-start .pre, record { seen = b })
+    let b = learnt firstSimple (c .if1 .taken) (at-begins-simple .begins-simple .ensures) (at-symbol-at .symbol-at .ensures) in
+    gathering-starts {item = item} (at-start .pre) (record { seen = b })
 
-enum-known-inner : tie.Need-enum-known-inner
+rule-simple-requires : tie.Need-rule-simple-requires Inv-loop μ-loop
+rule-simple-requires c κs =
+    let at-loop = c .before in
+    let i = at-loop .loop .inv in
+    (i .ready, i .begun)
+
+enum-known-inner : tie.Need-enum-known-inner Inv-loop μ-loop
 enum-known-inner c = search needs
 
-simples-rest-requires : tie.Need-simples-rest-requires
-unfolding first rank
-simples-rest-requires c κs =
+joined-requires : tie.Need-joined-requires Inv-loop μ-loop
+joined-requires c κs =
     let at-inner = c .before .before in
     let at-rule-simple = at-inner .before .before .before .before in
-    let at-if1 = at-rule-simple .before .before in
-    let at-begins-simple = at-if1 .before in
-    let at-symbol-at = at-begins-simple .before in
-    let at-start = at-symbol-at .before .before .before .before .before in
-    let r = at-start .pre in
-    let b = learnt firstSimple (at-if1 .if1 .taken) (at-begins-simple .begins-simple .ensures) (at-symbol-at .symbol-at .ensures) in
-    let lt = before-eof firstSimple refl (r .tokens) (r .here) b in
-    let g = came-rule _ _ (r .tokens) pays-simple lt (at-rule-simple .rule-simple .ensures .0) (at-inner .inner .given .1) in
-    let k = at-rule-simple .rule-simple .kept .1 .1 .0 in
-    (ready-of (r .tokens) (omega arith), at-rule-simple .rule-simple .ensures .1 .last _ _ (at-inner .inner .given .1))
+    let at-loop = at-rule-simple .before .before in
+    let i = at-loop .loop .inv in
+    let r = at-rule-simple .rule-simple .ensures .0 in
+    let e = at-inner .inner .given .1 in
+    (simples-room i r e (at-rule-simple .rule-simple .kept .1 .1 .0), simples-held i r e)
 
-enum-known-inner-2 : tie.Need-enum-known-inner-2
+symbol-at-requires-2 : tie.Need-symbol-at-requires-2 Inv-loop μ-loop
+symbol-at-requires-2 c κs =
+    let at-inner = c .before .before .before .before .before .before in
+    let at-rule-simple = at-inner .before .before .before .before in
+    let at-loop = at-rule-simple .before .before in
+    let i = at-loop .loop .inv in
+    (i .ready .tokens, simples-came i (at-rule-simple .rule-simple .ensures .0) (at-inner .inner .given .1) .here)
+
+is-symbol-requires : tie.Need-is-symbol-requires Inv-loop μ-loop
+is-symbol-requires c κs = search needs
+
+add-t : tie.Need-add-t Inv-loop μ-loop
+add-t c =
+    let at-inner = c .before .before .before .before .before .before .before .before .before .before in
+    let at-rule-simple = at-inner .before .before .before .before in
+    let at-loop = at-rule-simple .before .before in
+    let i = at-loop .loop .inv in
+    let g = simples-came i (at-rule-simple .rule-simple .ensures .0) (at-inner .inner .given .1) in
+    omega (arith, g .here, i .ready .tokens .few)
+
+symbol-at-requires-3 : tie.Need-symbol-at-requires-3 Inv-loop μ-loop
+symbol-at-requires-3 c κs =
+    let at-if2 = c .before in
+    let at-is-symbol = at-if2 .before in
+    let at-symbol-at2 = at-is-symbol .before in
+    let at-inner = at-symbol-at2 .before .before .before .before .before .before .before in
+    let at-rule-simple = at-inner .before .before .before .before in
+    let at-loop = at-rule-simple .before .before in
+    let i = at-loop .loop .inv in
+    let h = learnt (code.Semicolon ∷ []) (at-if2 .if2 .taken) (at-is-symbol .is-symbol .ensures) (at-symbol-at2 .symbol-at2 .ensures) in
+    (i .ready .tokens, simples-took i (at-rule-simple .rule-simple .ensures .0) (at-inner .inner .given .1) h .inside)
+
+begins-simple-requires-2 : tie.Need-begins-simple-requires-2 Inv-loop μ-loop
+begins-simple-requires-2 c κs = search needs
+
+loop-less : tie.Need-loop-less Inv-loop μ-loop
+loop-less c =
+    let at-if2 = c .before .before .before .before in
+    let at-is-symbol = at-if2 .before in
+    let at-symbol-at2 = at-is-symbol .before in
+    let at-inner = at-symbol-at2 .before .before .before .before .before .before .before in
+    let at-rule-simple = at-inner .before .before .before .before in
+    let at-loop = at-rule-simple .before .before in
+    let i = at-loop .loop .inv in
+    let r = at-rule-simple .rule-simple .ensures .0 in
+    let e = at-inner .inner .given .1 in
+    let h = learnt (code.Semicolon ∷ []) (at-if2 .if2 .taken) (at-is-symbol .is-symbol .ensures) (at-symbol-at2 .symbol-at2 .ensures) in
+    omega (arith, simples-came i r e .on, simples-took i r e h .inside)
+
+loop-again : tie.Need-loop-again Inv-loop μ-loop
+loop-again c =
+    let at-begins-simple2 = c .before in
+    let at-symbol-at3 = at-begins-simple2 .before in
+    let at-if2 = at-symbol-at3 .before .before in
+    let at-is-symbol = at-if2 .before in
+    let at-symbol-at2 = at-is-symbol .before in
+    let at-joined = at-symbol-at2 .before .before .before .before in
+    let at-inner = at-joined .before .before .before in
+    let at-rule-simple = at-inner .before .before .before .before in
+    let at-loop = at-rule-simple .before .before in
+    let i = at-loop .loop .inv in
+    let r = at-rule-simple .rule-simple .ensures .0 in
+    let e = at-inner .inner .given .1 in
+    let j = at-joined .joined .ensures _ _ in
+    let h = learnt (code.Semicolon ∷ []) (at-if2 .if2 .taken) (at-is-symbol .is-symbol .ensures) (at-symbol-at2 .symbol-at2 .ensures) in
+    let g = learnt firstSimple (c .if3 .taken) (at-begins-simple2 .begins-simple2 .ensures) (at-symbol-at3 .symbol-at3 .ensures) in
+    simples-goes i r e j (at-rule-simple .rule-simple .kept .1 .1 .0) (at-joined .joined .kept .0) h g
+
+line-end-requires : tie.Need-line-end-requires Inv-loop μ-loop
+line-end-requires c κs =
+    let at-if2 = c .before .before .before .before in
+    let at-is-symbol = at-if2 .before in
+    let at-symbol-at2 = at-is-symbol .before in
+    let at-inner = at-symbol-at2 .before .before .before .before .before .before .before in
+    let at-rule-simple = at-inner .before .before .before .before in
+    let at-loop = at-rule-simple .before .before in
+    let i = at-loop .loop .inv in
+    let r = at-rule-simple .rule-simple .ensures .0 in
+    let e = at-inner .inner .given .1 in
+    let h = learnt (code.Semicolon ∷ []) (at-if2 .if2 .taken) (at-is-symbol .is-symbol .ensures) (at-symbol-at2 .symbol-at2 .ensures) in
+    let l = simples-took i r e h in
+    (i .ready .tokens, (l .inside, simples-came i r e .used ∙ sym (l .text)))
+
+same-length : tie.Need-same-length Inv-loop μ-loop
+same-length c =
+    let at-joined = c .before .before .before .before .before .before .before .before .before .before .before in
+    let at-rule-simple = at-joined .before .before .before .before .before .before .before in
+    let at-loop = at-rule-simple .before .before in
+    omega (arith, at-joined .joined .kept .0, at-rule-simple .rule-simple .kept .1 .1 .0, at-loop .loop .inv .long)
+
+returns : tie.Need-returns Inv-loop μ-loop
+returns c =
+    let at-if3 = c .before in
+    let at-begins-simple2 = at-if3 .before in
+    let at-symbol-at3 = at-begins-simple2 .before in
+    let at-if2 = at-symbol-at3 .before .before in
+    let at-is-symbol = at-if2 .before in
+    let at-symbol-at2 = at-is-symbol .before in
+    let at-joined = at-symbol-at2 .before .before .before .before in
+    let at-inner = at-joined .before .before .before in
+    let at-rule-simple = at-inner .before .before .before .before in
+    let at-loop = at-rule-simple .before .before in
+    let i = at-loop .loop .inv in
+    let r = at-rule-simple .rule-simple .ensures in
+    let j = at-joined .joined .ensures _ _ in
+    let h = learnt (code.Semicolon ∷ []) (at-if2 .if2 .taken) (at-is-symbol .is-symbol .ensures) (at-symbol-at2 .symbol-at2 .ensures) in
+    let g = learnt firstSimple (at-if3 .if3 .left) (at-begins-simple2 .begins-simple2 .ensures) (at-symbol-at3 .symbol-at3 .ensures) in
+    record { comes = λ vs. simples-shut i (r .0) (at-inner .inner .given .1) j (r .1) h g (c .line-end .ensures _ _) vs }
+
+line-end-requires-2 : tie.Need-line-end-requires-2 Inv-loop μ-loop
+line-end-requires-2 c κs =
+    let at-inner = c .before .before .before .before .before .before .before .before .before in
+    let at-rule-simple = at-inner .before .before .before .before in
+    let at-loop = at-rule-simple .before .before in
+    let i = at-loop .loop .inv in
+    let v = simples-came i (at-rule-simple .rule-simple .ensures .0) (at-inner .inner .given .1) in
+    (i .ready .tokens, (v .here, v .used))
+
+same-length-2 : tie.Need-same-length-2 Inv-loop μ-loop
+same-length-2 c =
+    let at-joined = c .before .before .before .before .before .before .before in
+    let at-rule-simple = at-joined .before .before .before .before .before .before .before in
+    let at-loop = at-rule-simple .before .before in
+    omega (arith, at-joined .joined .kept .0, at-rule-simple .rule-simple .kept .1 .1 .0, at-loop .loop .inv .long)
+
+returns-2 : tie.Need-returns-2 Inv-loop μ-loop
+returns-2 c =
+    let at-if2 = c .before in
+    let at-is-symbol = at-if2 .before in
+    let at-symbol-at2 = at-is-symbol .before in
+    let at-joined = at-symbol-at2 .before .before .before .before in
+    let at-inner = at-joined .before .before .before in
+    let at-rule-simple = at-inner .before .before .before .before in
+    let at-loop = at-rule-simple .before .before in
+    let i = at-loop .loop .inv in
+    let r = at-rule-simple .rule-simple .ensures in
+    let j = at-joined .joined .ensures _ _ in
+    let h = learnt (code.Semicolon ∷ []) (at-if2 .if2 .left) (at-is-symbol .is-symbol .ensures) (at-symbol-at2 .symbol-at2 .ensures) in
+    record { comes = λ vs. simples-end i (r .0) (at-inner .inner .given .1) j (r .1) h (c .line-end2 .ensures _ _) vs }
+
+enum-known-inner-2 : tie.Need-enum-known-inner-2 Inv-loop μ-loop
 enum-known-inner-2 c = search needs
 
-same-length : tie.Need-same-length
-same-length c = search needs
+same-length-3 : tie.Need-same-length-3 Inv-loop μ-loop
+same-length-3 c =
+    let at-rule-simple = c .before .before .before .before .before in
+    let at-loop = at-rule-simple .before .before in
+    omega (arith, at-rule-simple .rule-simple .kept .1 .1 .0, at-loop .loop .inv .long)
 
-returns : tie.Need-returns
-unfolding first
-returns c =
-    let at-simples-rest = c .before .before in
-    let at-inner = at-simples-rest .before .before .before in
-    let at-rule-simple = at-inner .before .before .before .before in
-    let at-if1 = at-rule-simple .before .before in
-    let at-begins-simple = at-if1 .before in
-    let at-symbol-at = at-begins-simple .before in
-    let at-start = at-symbol-at .before .before .before .before .before in
-    let r = at-start .pre in
-    let b = learnt firstSimple (at-if1 .if1 .taken) (at-begins-simple .begins-simple .ensures) (at-symbol-at .symbol-at .ensures) in
-    record { comes = λ vs. part-then (called (r .here) b (at-rule-simple .rule-simple .ensures .0)) (at-inner .inner .given .1) (one-then (at-simples-rest .simples-rest .ensures .comes vs)) }
-
-same-length-2 : tie.Need-same-length-2
-same-length-2 c = search needs
-
-returns-2 : tie.Need-returns-2
-unfolding first
-returns-2 c =
+returns-3 : tie.Need-returns-3 Inv-loop μ-loop
+returns-3 c =
     let at-inner2 = c .before in
     let at-rule-simple = at-inner2 .before .before .before .before in
-    let at-if1 = at-rule-simple .before .before in
-    let at-begins-simple = at-if1 .before in
-    let at-symbol-at = at-begins-simple .before in
-    let at-start = at-symbol-at .before .before .before .before .before in
-    let r = at-start .pre in
-    let b = learnt firstSimple (at-if1 .if1 .taken) (at-begins-simple .begins-simple .ensures) (at-symbol-at .symbol-at .ensures) in
-    record { comes = λ vs. part-stop _ (called (r .here) b (at-rule-simple .rule-simple .ensures .0)) (at-inner2 .inner2 .given .1) }
+    let at-loop = at-rule-simple .before .before in
+    record { comes = λ vs. simples-stop (at-loop .loop .inv) (at-rule-simple .rule-simple .ensures .0) (at-inner2 .inner2 .given .1) vs }
 
-returns-3 : tie.Need-returns-3
+returns-4 : tie.Need-returns-4 Inv-loop μ-loop
 unfolding first
-returns-3 c =
+returns-4 c =
     let at-begins-simple = c .before in
     let at-symbol-at = at-begins-simple .before in
     let at-start = at-symbol-at .before .before .before .before .before in
@@ -100,14 +227,28 @@ pub simples-spec : {M : Type 1} → statement M
 simples-spec =
     tie.close
     (tie.spec
+    Inv-loop
+    μ-loop
     symbol-at-requires
     begins-simple-requires
+    loop-holds
     rule-simple-requires
     enum-known-inner
-    simples-rest-requires
-    enum-known-inner-2
+    joined-requires
+    symbol-at-requires-2
+    is-symbol-requires
+    add-t
+    symbol-at-requires-3
+    begins-simple-requires-2
+    loop-less
+    loop-again
+    line-end-requires
     same-length
     returns
+    line-end-requires-2
     same-length-2
     returns-2
-    returns-3)
+    enum-known-inner-2
+    same-length-3
+    returns-3
+    returns-4)
