@@ -1,6 +1,6 @@
 #!/bin/sh
 # Times `pyh check` over the scripts of all kiosks, 340 folders of 60, one script of each refused: the best of ten runs, by the wall's clock, for each
-# format. The files were just written, so the system has them in memory. Under a minute where the reader is proved already.
+# format. The files were just written, so the system has them in memory. About a minute where the reader is proved already.
 set -eu
 cd "$(dirname "$0")/.."
 pyh/build.sh

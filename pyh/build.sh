@@ -4,3 +4,4 @@ set -eu
 cd "$(dirname "$0")/.."
 rt staticlib ffi >/dev/null
 cargo build --quiet --offline --release --manifest-path pyh/Cargo.toml --target-dir target/cargo
+echo "built target/cargo/release/pyh" >&2

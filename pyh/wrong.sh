@@ -1,52 +1,81 @@
 #!/bin/sh
-# Builds wrong copies of pyh: the stored cases must find each. It wants what pyh/test.sh wants, and some six minutes.
+# Builds wrong copies of pyh: the stored cases must find each, and nothing in a copy that has no edit. It wants what pyh/test.sh wants, and some eight
+# minutes.
 set -eu
 cd "$(dirname "$0")/.."
 rt staticlib ffi >/dev/null
 root=$PWD
 out=$root/target/wrong_pyh
 export TARBUCKET_LIB="$root/target/staticlib"
+count=0
 
-# wrong WHAT FILE EDIT
-wrong() {
+# copy FILE EDIT
+copy() {
     rm -rf "$out/pyh"
     mkdir -p "$out/pyh"
     ln -sfn "$root/bindings" "$out/bindings"
     cp -r pyh/Cargo.toml pyh/Cargo.lock pyh/src "$out/pyh"
-    sed "$3" "pyh/src/$2" >"$out/pyh/src/$2"
+    sed "$2" "pyh/src/$1" >"$out/pyh/src/$1"
+    RUSTFLAGS=-Awarnings cargo build --quiet --offline --release --manifest-path "$out/pyh/Cargo.toml" --target-dir "$out/target"
+}
+
+# wrong WHAT FILE EDIT
+wrong() {
+    copy "$2" "$3"
     if cmp -s "pyh/src/$2" "$out/pyh/src/$2"; then
         echo "$1: the edit changes nothing"
         exit 1
     fi
-    RUSTFLAGS=-Awarnings cargo build --quiet --offline --release --manifest-path "$out/pyh/Cargo.toml" --target-dir "$out/target"
-    if PYH=$out/target/release/pyh pyh/test.sh >"$out/log"; then
+    if PYH=$out/target/release/pyh pyh/test.sh >"$out/log" || ! grep -q '^FAILED' "$out/log"; then
         echo "$1: NOT FOUND"
         exit 1
     fi
     printf '%s: %s\n' "$1" "$(grep -m 1 '^FAILED' "$out/log")"
+    count=$((count + 1))
 }
+
+copy main.rs ''
+PYH=$out/target/release/pyh pyh/test.sh
 
 wrong "columns in bytes" excerpt.rs 's/let column = .*/let column = place.min(to) - from + 1;/'
 wrong "lines from 0" excerpt.rs 's/count() + 1;$/count();/'
 wrong "a line cut without regard to the terminal" excerpt.rs 's/look.columns.map_or(WIDEST, .*/WIDEST;/'
+wrong "marks that take a column" excerpt.rs 's/_ if within(&NONE) => 0/_ if within(\&NONE) => 1/'
+wrong "wide characters that take one" excerpt.rs 's/_ if within(&WIDE) => 2/_ if within(\&WIDE) => 1/'
+wrong "what no one sees, as it is" excerpt.rs 's/matches!(c as u32, 0xAD .*/false/'
+wrong "control characters of a script as they are" excerpt.rs "s/0x80..=0x9F => ('▯', 1),//"
+wrong "sentences broken within words" excerpt.rs 's/let Some(widest) = widest else .*/let widest = usize::MAX;/'
 wrong "quotes in json as they are" json.rs "s/'\"' | '..' =>/'\\\\\\\\' =>/"
 wrong "a name with the bytes lost" names.rs 's/"..x{byte:02X}"/"?"/'
 wrong "a name's control characters as they are" names.rs 's/c.is_control() ||//'
+wrong "two names that look alike" names.rs "s/ || c == '..' {/ {/"
 wrong "colours in a pipe" terminal.rs 's/colours: columns.is_some() \&\& moves()/colours: moves()/'
 wrong "NO_COLOR not asked for" terminal.rs 's/ \&\& var_os("NO_COLOR").is_none()//'
 wrong "NO_COLOR asked for a value" terminal.rs 's/var_os("NO_COLOR").is_none()/var_os("NO_COLOR").is_none_or(|v| v.is_empty())/'
-wrong "progress that stays" progress.rs 's/if std::mem::take(&mut self.there)/if false/'
-wrong "progress in a file" progress.rs 's/columns: columns(&io::stderr()).filter(|_| moves())/columns: Some(80)/'
+wrong "a terminal without a name taken for one that has colours" terminal.rs 's/is_some_and(|term| term != "dumb" \&\& !term.is_empty())/is_none_or(|term| term != "dumb")/'
+wrong "progress that stays" progress.rs 's/if self.drawn.take().is_some()/if false/'
+wrong "progress in a file" progress.rs 's/columns(&io::stderr()).is_some() \&\&//'
 wrong "progress for one script" progress.rs 's/of > FEW/of > 0/'
+wrong "progress that stands still" progress.rs 's/from_millis(50)/from_secs(3600)/'
 wrong "a panic where errors can't be written" output.rs 's/let _ = writeln!(io::stderr(), /eprintln!(/'
 wrong "a closed pipe that is an error" output.rs 's/ if e.kind() != ErrorKind::BrokenPipe//'
 wrong "a full device that is none" output.rs 's/e.kind() != ErrorKind::BrokenPipe/false/'
+wrong "an output that can't be written taken for one that can" output.rs 's/let file = .*/let file = File::options().write(true).open("\/dev\/stdout").unwrap_or_else(|_| File::create("\/dev\/null").unwrap());/'
 wrong "no status of its own for what can't be read" check.rs 's/_ => TROUBLE/_ => REFUSED/'
-wrong "an empty folder taken for a good one" scripts.rs 's/if scripts.len() == before/if false/'
-wrong "links followed" scripts.rs 's/let kind = entry.file_type()?;/let kind = path.metadata().map_or(entry.file_type()?, |m| m.file_type());/'
+wrong "messages before what stood before them" check.rs 's/            self.out.flush();$//'
+wrong "totals of a check that was cut" check.rs 's/if !self.out.is_lost() {/if true {/'
+wrong "an input that can't be read taken for an empty script" scripts.rs 's/(&\*stream(0)).take(most)/io::stdin().take(most)/'
+wrong "an empty folder taken for a good one" scripts.rs 's/if all\[before..\].iter().all(.*/if false {/'
+wrong "a folder that can't be read passed over" scripts.rs 's/Err(e) => What::Trouble(why(&e)),/Err(_) => continue,/'
+wrong "links followed" scripts.rs 's/_ if kind.is_dir() => entries/_ if path.is_dir() => entries/'
+wrong "links passed over in silence" scripts.rs 's/Some(end) if end.is_dir() => .*/Some(end) if end.is_dir() => {}/'
 wrong "folders in no order" scripts.rs 's/b.0.as_os_str().cmp(a.0.as_os_str())/a.0.as_os_str().cmp(b.0.as_os_str())/'
-wrong "a pipe that is waited for" scripts.rs 's/if !end.is_file() =>/if false =>/'
+wrong "small letters alone" scripts.rs 's/.eq_ignore_ascii_case(b".pyh")/.eq(b".pyh")/'
+wrong "a pipe that is waited for" scripts.rs 's/Some(end) if !end.is_file() =>/Some(_) if false =>/'
 wrong "standard input twice" scripts.rs 's/0 | 1 => Ok/0 | 1 | 2 => Ok/'
 wrong "options behind --" arguments.rs 's/if bytes == b"--" {/if bytes == b"--" { continue;/'
 wrong "the first option for the nearest" arguments.rs 's/names.min_by_key(.*/{ let mut names = names; names.next().expect("there are names") }/'
 wrong "the first format counts" arguments.rs 's/self.chosen.iter().rev()/self.chosen.iter()/'
+wrong "a remedy that was not tried" misfit.rs 's/Ok(_) => true,/_ => true,/'
+wrong "no remedy that leads to a later refusal" misfit.rs 's/=> e.place() > .*/=> false,/'
+echo "$count passed, 0 failed"

@@ -3,9 +3,15 @@
 
     stack/frames.py [LIBRARY]    prints the frames and the sum; status 0 exactly if it is no more than include/tarbucket.h promises
 
-objdump shows each function of the archive: what it pushes, what it takes from the stack pointer, and whom it calls. At most 64 E and Block are open at
-once, and one more is refused by its first test: so of the calls that are open, no more than 65 are of rule_e and rule_block, and the last of these calls
-nothing. The sum is that of the longest such chain. It is no proof: it believes objdump, and that the names are those of the source.
+objdump shows each function of the archive. Its instructions are walked along all jumps, with how deep the stack is before each; what is below the stack
+pointer and used (the red zone) counts too. At most 64 E and Block are open at once, and one more is refused by its first test: so of the calls that are
+open, no more than 65 are of rule_e and rule_block, and the last of these calls nothing. The sum is that of the longest such chain.
+
+Where the code is such that this can't be told, it stops and says where. It is no proof, for it believes:
+- objdump, and that the names are those of the source;
+- that a jump through a table of offsets goes to blocks of the same function. The table itself is not read: the blocks that nothing else reaches are
+  walked with the depth of that jump;
+- that memory below the stack pointer is named by the stack pointer, not by a copy of it. It stops at a frame pointer.
 """
 import os
 import re
@@ -16,61 +22,175 @@ from functools import lru_cache
 ROOT = os.path.dirname(os.path.dirname(os.path.abspath(__file__)))
 LEVELS, DEEPEST = {"expr::rule_e", "stmt::rule_block"}, 64
 ENTRY, PUSHED = "tarbucket_parse_source", 32  # four of its ten arguments go by the stack
-OUTSIDE = {"memset": 512}  # the system's: none of its forms takes as much
+# The system's: none of its forms takes as much. Where it is bound at its first call, the linker's resolver takes some KiB more, which are not in it: today
+# they can't matter, since the list that is printed has memset among the calls of ENTRY alone, some 90,000 bytes above the deepest place.
+OUTSIDE = {"memset": 512}
+
+PREFIXES = r"(?:(?:notrack|bnd|repz?|data16|cs)\s+)*"
+PADDING = r"nop|int3$|xchg +%ax,%ax$"
+# What moves the stack pointer or leaves the function without naming it, but for what is understood.
+STRANGE = r"push|pop(?!cnt)|leave|enter|[il]?ret.|[il]ret|lcall|ljmp|call.|loop|xbegin|sys(exit|ret)|\(bad\)"
+
+
+class Line:
+    """An instruction: where it is and where the next one would be, its words, and the symbol that it names, with what is added to it."""
+
+    def __init__(self, place, text):
+        self.place, self.next, self.kind, self.symbol, self.added = place, None, "", None, 0
+        self.text = re.sub(PREFIXES, "", text.split(" #")[0].strip(), count=1)
+        word, _, rest = self.text.partition(" ")
+        self.word, self.rest = re.sub("^(call|ret|push|pop|jmp|leave)q$", r"\1", word), rest.strip()
+
+
+class Function:
+    """A function's lines by their places, and all functions of its object, by section and place."""
+
+    def __init__(self, name, section, starts):
+        self.name, self.section, self.starts, self.lines = name, section, starts, {}
+
+    def stop(self, line, why):
+        sys.exit(f"{self.name}: {line.place:x}: {line.text}: {why}")
 
 
 def functions(library):
-    """For each function its instructions, each as [text, the symbol that it names or None]."""
-    out = subprocess.run(["objdump", "-drC", "--no-show-raw-insn", library], capture_output=True, text=True, check=True).stdout
-    all, name = {}, None
-    for line in out.splitlines():
-        if found := re.match(r"[0-9a-f]+ <(.+)>:$", line):
-            name = found[1]
-            all[name] = []
-        elif found := re.match(r"\s+[0-9a-f]+: R_X86_64_\S+\s+(?:\.text\.)?(.+?)-0x[0-9a-f]+$", line):
-            all[name][-1][1] = found[1]
-        elif found := re.match(r"\s+[0-9a-f]+:\s+(\S.*)$", line):
-            all[name].append([found[1].split("#")[0].strip(), None])
+    """All functions of the archive, by name."""
+    command = ["objdump", "-drzC", "--no-show-raw-insn", library]
+    out = subprocess.run(command, capture_output=True, text=True, check=True).stdout
+    all, starts, section, function, last = {}, {}, None, None, None
+    for text in out.splitlines():
+        if re.search(r":\s+file format ", text):
+            starts = {}
+        elif found := re.match(r"Disassembly of section (.+):$", text):
+            section = found[1]
+        elif found := re.match(r"([0-9a-f]+) <(.+)>:$", text):
+            if found[2] in all:
+                sys.exit(f"{found[2]}: there are two functions of this name")
+            function, last = Function(found[2], section, starts), None
+            all[found[2]] = starts[section, int(found[1], 16)] = function
+        elif found := re.match(r"\s+[0-9a-f]+: (R_X86_64_\S+)\s+(.+?)([+-]0x[0-9a-f]+)?$", text):
+            last.kind, last.symbol, last.added = found[1], found[2], int(found[3] or "0", 16)
+        elif found := re.match(r"\s+([0-9a-f]+):\s+(\S.*)$", text):
+            line = Line(int(found[1], 16), found[2])
+            if last:
+                last.next = line.place
+            function.lines[line.place] = last = line
     return all
 
 
-def frame(name, code):
-    """The deepest that the function itself goes, its return address included; and its calls, each with how deep the stack is there."""
-    depth = deepest = 8
-    settled, calls = None, []
-    for text, symbol in code:
-        word, _, rest = text.partition(" ")
-        if word == "push":
-            depth += 8
-        elif word == "pop":
-            depth -= 8
-        elif rest.endswith(",%rsp"):
-            amount = re.match(r"\s*\$0x([0-9a-f]+),%rsp$", rest)
-            if word not in ("sub", "add") or not amount:
-                sys.exit(f"{name}: {text}: not understood")
-            depth += int(amount[1], 16) * (1 if word == "sub" else -1)
-        elif word == "call" or (word == "jmp" and symbol):
-            direct = symbol or (re.search(r"<(.+)>$", rest) or [None, None])[1]
-            if not direct:
-                sys.exit(f"{name}: {text}: whom does it call?")
-            calls.append((depth if word == "call" else depth - 8, direct))
-        if settled is None and word[0] == "j":
-            settled = depth  # the frame stands before the first jump
-        if word in ("ret", "jmp", "ud2"):
-            depth = settled or 8
-        deepest = max(deepest, depth)
-    return deepest, calls
+class Walk:
+    """Along all jumps of a function, with how deep the stack is before each line: 8 at its start, for the return address."""
+
+    def __init__(self, function):
+        self.function, self.lines = function, function.lines
+        self.depths, self.tables, self.deepest, self.calls = {}, set(), 8, []
+        self.follow(next(iter(self.lines)), 8)
+        for line in self.lines.values():
+            if line.place not in self.depths and not re.match(PADDING, line.text):
+                if not self.tables:
+                    function.stop(line, "nothing comes here")
+                self.follow(line.place, *self.tables)
+
+    def follow(self, place, depth):
+        """From this place on, and from all places that are reached from it."""
+        todo = [(place, depth)]
+        while todo:
+            place, depth = todo.pop()
+            if place not in self.depths:
+                self.depths[place] = depth
+                todo += self.step(self.lines[place], depth)
+            elif self.depths[place] != depth:
+                self.function.stop(self.lines[place], f"the stack is {self.depths[place]} deep here, and {depth} too")
+
+    def step(self, line, depth):
+        """The places that come next, each with its depth."""
+        after = depth + self.moved(line)
+        below = re.search(r"-0x([0-9a-f]+)\(%rsp", line.rest)
+        self.deepest = max(self.deepest, after, depth + int(below[1], 16) if below else 0)
+        if line.word[0] == "j":
+            return self.jump(line, depth)
+        if line.word == "call":
+            self.calls.append((depth, self.callee(line)))
+        if line.word == "ret" and depth != 8:
+            self.function.stop(line, f"the stack is {depth} deep")
+        if line.word in ("ret", "ud2", "hlt"):
+            return []
+        return self.onward(line, after)
+
+    def onward(self, line, depth):
+        if line.next is None:
+            self.function.stop(line, "runs past the function's end")
+        return [(line.next, depth)]
+
+    def moved(self, line):
+        """By how much it makes the stack deeper."""
+        whole = re.search(r"^\$|%r([a-z]{2}|\d+)$|\)$", line.rest)
+        if line.word in ("push", "pop") and whole and line.text.split() != ["pop", "%rsp"]:
+            return 8 if line.word == "push" else -8
+        if found := re.match(r"(sub|add) +\$0x([0-9a-f]+),%rsp$", line.text):
+            amount = int(found[2], 16)
+            amount -= (amount >> 63) << 64
+            return amount if found[1] == "sub" else -amount
+        if found := re.match(r"lea +(-?0x[0-9a-f]+)\(%rsp\),%rsp$", line.text):
+            return -int(found[1], 16)
+        named = re.search(r"%[re]?spl?\b", re.sub(r"\(.*?\)", "", line.rest))
+        copied = re.match(r"mov +%rsp,%r(?!bp)", line.text)
+        if (named and not copied) or re.match(STRANGE, line.word) or (line.word == "ret" and line.rest):
+            self.function.stop(line, "not understood")
+        return 0
+
+    def jump(self, line, depth):
+        """Within the function, or out of it: that is a call for which nothing of this function is left on the stack."""
+        onward = [] if line.word == "jmp" else self.onward(line, depth)
+        if self.table(line):
+            self.tables.add(depth)
+            if len(self.tables) > 1:
+                self.function.stop(line, "jumps through tables at two depths")
+            return []
+        place = re.match(r"([0-9a-f]+)(?: <|$)", line.rest)
+        if place and not line.symbol and int(place[1], 16) in self.lines:
+            return onward + [(int(place[1], 16), depth)]
+        self.calls.append((0, self.callee(line)))
+        if depth != 8:
+            self.function.stop(line, f"leaves the function, and the stack is {depth} deep")
+        return onward
+
+    def table(self, line):
+        """Whether it jumps to an offset of a table, added to the table's own place: movslq (T,I,4),R; add T,R; jmp *R."""
+        if not (register := re.fullmatch(r"\*(%r\w+)", line.rest)):
+            return False
+        run = ""
+        for other in self.lines.values():
+            if other is line:
+                break
+            run = "" if other.word[0] == "j" or other.word in ("call", "ret") else f"{run}{other.text}\n"
+        goal = register[1]
+        others = rf"(.*(?<![ ,]{goal})\n)*"
+        return bool(re.search(rf"movslq +(0x0)?\((?P<table>%r\w+),%r\w+,4\),{goal}\n{others}add +(?P=table),{goal}\n{others}$", run))
+
+    def callee(self, line):
+        """The name of the function that it goes to, at whose start it must come in."""
+        starts, section, symbol = self.function.starts, self.function.section, line.symbol
+        if "*" in line.rest and not ("GOTPCREL" in line.kind and line.rest == "*0x0(%rip)"):
+            self.function.stop(line, "where does it go?")
+        if symbol and (symbol, 0) not in starts and line.added == -4:
+            return symbol
+        place = line.added + 4 if symbol else int(line.rest.split()[0], 16)
+        if (symbol or section, place) not in starts:
+            self.function.stop(line, "goes into the middle of a function")
+        return starts[symbol or section, place].name
 
 
-def longest(frames):
-    """From a function on, with room for so many E and Block: the bytes, and the functions on the way."""
+def longest(walks):
+    """From the entry on, with room for so many E and Block: the bytes, and the functions on the way."""
     open_now = set()
 
     @lru_cache(None)
     def below(name, room):
         if name in OUTSIDE:
             return OUTSIDE[name], (name,)
-        own, calls = frames[name]
+        if name not in walks:
+            sys.exit(f"{name}: not in the archive")
+        own = walks[name].deepest
         if name in LEVELS:
             if room == 0:
                 return own, (name,)
@@ -79,7 +199,7 @@ def longest(frames):
             sys.exit(f"{name} comes to itself with neither rule_e nor rule_block between")
         open_now.add((name, room))
         ways = [(own, (name,))]
-        for depth, callee in calls:
+        for depth, callee in walks[name].calls:
             taken, way = below(callee, room)
             ways.append((depth + taken, (name,) + way))
         open_now.remove((name, room))
@@ -90,14 +210,14 @@ def longest(frames):
 
 def main():
     library = sys.argv[1] if len(sys.argv) > 1 else f"{ROOT}/target/staticlib/libffi.a"
-    frames = {name: frame(name, code) for name, code in functions(library).items()}
-    for name, (own, calls) in frames.items():
-        print(f"{own:6} {name}: " + ", ".join(sorted({callee for _, callee in calls})))
-    taken, way = longest(frames)
+    walks = {name: Walk(function) for name, function in functions(library).items()}
+    for name, walk in walks.items():
+        print(f"{walk.deepest:6} {name}: " + ", ".join(sorted({callee for _, callee in walk.calls})))
+    taken, way = longest(walks)
     taken += PUSHED
     header = open(f"{ROOT}/include/tarbucket.h", encoding="utf-8").read()
     promise = int(re.search(r"#define TARBUCKET_STACK_BYTES (\d+)u", header)[1])
-    print("\nthe longest chain: " + ", ".join(way[:7]) + ", .., " + ", ".join(way[-6:]))
+    print("\nthe longest chain: " + ", ".join(way if len(way) < 14 else way[:7] + ("..",) + way[-6:]))
     print(f"{taken:,} bytes at most, promised are {promise:,}")
     sys.exit(taken > promise)
 

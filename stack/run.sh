@@ -3,6 +3,7 @@
 # more than the header and the Rust crate promise. Under a minute where the reader is proved already.
 set -eu
 cd "$(dirname "$0")/.."
-rt staticlib ffi
+mkdir -p target/stack
+rt staticlib ffi > target/stack/rt.log 2>&1 || { tail -n 20 target/stack/rt.log; exit 1; }
 cargo build --offline --release --quiet --manifest-path stack/Cargo.toml --target-dir target/stack
 exec target/stack/release/stack

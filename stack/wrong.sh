@@ -1,11 +1,19 @@
 #!/bin/sh
-# Puts wrong libraries in the place of the true one: the check must find each, and what it finds is shown. Then one that is known to take 40,000
-# bytes, which must be measured as that. It wants objcopy and ar, which come with a C compiler; about a minute and a half.
+# Puts wrong libraries in the place of the true one: the check must find each. Then one that is known to take 40,000 bytes, which must be measured as
+# that. And code of which frames.py must tell the sum, or that it can't. It wants objcopy, objdump and ar, which come with a C compiler; about a minute
+# and a half. The last line is N passed, 0 failed, and the status 0 exactly then.
 set -eu
 cd "$(dirname "$0")/.."
 out=$PWD/target/stack-wrong
 mkdir -p "$out"
-rt staticlib ffi
+rt staticlib ffi > "$out/rt.log" 2>&1 || { tail -n 20 "$out/rt.log"; exit 1; }
+passed=0 failed=0
+
+# verdict STATUS WHAT SAID: counts it, and shows what the program said
+verdict() {
+    if [ "$1" -eq 0 ]; then passed=$((passed + 1)) word=passed; else failed=$((failed + 1)) word=FAILED; fi
+    printf '%s: %s\n    it says: %s\n' "$word" "$2" "$3"
+}
 
 # library FRAME COUNT AFTER: the true one called below COUNT frames of FRAME bytes, and what is done after it
 library() {
@@ -16,24 +24,64 @@ library() {
     STATICLIB=$out cargo build --offline --release --quiet --manifest-path stack/Cargo.toml --target-dir "$out/target"
 }
 
-# found WHAT WORDS: the check ends with 1 and says these words
+# found WHAT WORDS: the check ends with 1 and says these words; that it says FAILED is as it must be, so the word is not shown
 found() {
-    status=0
+    status=0 wrong=1
     "$out/target/release/stack" > "$out/log" || status=$?
-    if [ "$status" -ne 1 ] || ! grep -q "^FAILED: .*$2" "$out/log"; then
-        echo "$1: NOT FOUND"
-        exit 1
-    fi
-    printf '%s: %s\n    %s\n' "$1" "$(tail -n 1 "$out/log")" "$(grep -m 1 "^FAILED: .*$2" "$out/log")"
+    said=$(sed -n "s/^FAILED: \(.*$2.*\)/\1/p" "$out/log" | head -n 1)
+    if [ "$status" -eq 1 ] && [ -n "$said" ]; then wrong=0; fi
+    verdict "$wrong" "the check finds $1" "${said:-$(tail -n 1 "$out/log")}"
 }
+
+# frames WHAT ARCHIVE STATUS WORDS: frames.py ends so, and its last line begins with these words
+frames() {
+    status=0 wrong=1
+    python3 stack/frames.py "$2" > "$out/log" 2>&1 || status=$?
+    said=$(tail -n 1 "$out/log")
+    case $said in "$4"*) if [ "$status" -eq "$3" ]; then wrong=0; fi ;; esac
+    verdict "$wrong" "frames.py, $1" "$said"
+}
+
+# code CASE STATUS WORDS: the same for a case of wrong/frames.s
+code() {
+    rm -f "$out/code.a"
+    cc -c "-Wa,--defsym,$1=1" stack/wrong/frames.s -o "$out/code.o"
+    ar rc "$out/code.a" "$out/code.o"
+    frames "case $1" "$out/code.a" "$2" "$3"
+}
+
+# What is jumped to, called, taken and used: the sum, with the 32 bytes of the entry's arguments and 8 for each return address.
+code conditional 0 "1,040 bytes at most"
+code tail 0 "1,040 bytes at most"
+code section 0 "240 bytes at most"
+code linked 0 "560 bytes at most"
+code minus 0 "176 bytes at most"
+code lea 0 "120 bytes at most"
+code late 0 "120 bytes at most"
+code red 0 "168 bytes at most"
+code table 0 "72 bytes at most"
+# Where it can't be told.
+entry=tarbucket_parse_source
+code two 1 "$entry: 18: jmp    *%rax: jumps through tables at two depths"
+code pointer 1 "$entry: 3: jmp    *%rax: where does it go?"
+code overwritten 1 "$entry: a: jmp    *%rax: where does it go?"
+code register 1 "$entry: 1: call   *%rax: where does it go?"
+code leave 1 "$entry: 1: leave: not understood"
+code based 1 "$entry: 1: mov    %rsp,%rbp: not understood"
+code aligned 1 "$entry: 0: and    \$0xffffffffffffffc0,%rsp: not understood"
+code half 1 "$entry: 0: push   %ax: not understood"
+code depths 1 "$entry: 6: nop: the stack is 8 deep here, and 16 too"
+code return 1 "$entry: 1: ret: the stack is 16 deep"
+code kept 1 "$entry: 1: jmp    3 <big>: leaves the function, and the stack is 16 deep"
+code middle 1 "$entry: 0: jmp    9 <big+0x7>: goes into the middle of a function"
+code dead 1 "$entry: 1: mov    %rdi,%rax: nothing comes here"
+code past 1 "$entry: 0: call   14 <small>: runs past the function's end"
+code away 1 "elsewhere: not in the archive"
+code twice 1 "a::b: there are two functions of this name"
 
 library 8 'pluses(src, src_len)' 0
 found "a frame for each plus" "takes more than the 131,072 bytes of the stack"
-if python3 stack/frames.py "$out/libffi.a" > "$out/log" 2>&1; then
-    echo "a frame for each plus: NOT FOUND by its frames"
-    exit 1
-fi
-printf '    by the frames: %s\n' "$(tail -n 1 "$out/log")"
+frames "a frame for each plus" "$out/libffi.a" 1 "frames comes to itself with neither rule_e nor rule_block between"
 library 200 'levels(src, src_len)' 0
 found "200 bytes more for each level" "bytes, promised are"
 library 8 0 1
@@ -50,10 +98,10 @@ found "another promise in Rust" "the Rust crate promises 65,536 bytes"
 
 # A row's deepest call is its seventh field between bars.
 library 8 0 2
-"$out/target/release/stack" > "$out/log"
+"$out/target/release/stack" > "$out/log" || true
 taken=$(awk -F ' *[|] *' '$2 == "sums" { gsub(",", "", $7); print $7 }' "$out/log")
-if [ "$taken" -lt 40000 ] || [ "$taken" -gt 40200 ]; then
-    echo "40,000 bytes known: measured as $taken"
-    exit 1
-fi
-echo "40,000 bytes below the library's frame: measured as $taken below the caller's"
+if [ "$taken" -ge 40000 ] && [ "$taken" -le 40200 ]; then wrong=0; else wrong=1; fi
+verdict "$wrong" "the check measures 40,000 bytes below the library's frame" "$taken bytes below the caller's frame"
+
+echo "$passed passed, $failed failed"
+[ "$failed" -eq 0 ]

@@ -8,7 +8,10 @@ pub struct Command {
     /// What it does, in half a line.
     pub summary: &'static str,
     pub usage: &'static str,
-    pub help: &'static str,
+    /// What its help says before the options, of its own options, and behind them.
+    pub about: &'static str,
+    pub listed: &'static str,
+    pub notes: &'static str,
     pub options: &'static [Choice],
     /// Does it, and gives the status; or says why the words can't be obeyed.
     pub run: fn(&Wanted) -> Result<u8, String>,
@@ -20,8 +23,20 @@ pub struct Choice {
     pub values: &'static [&'static str],
 }
 
-/// The options that every command has.
+/// The options that every command has, and `pyh` itself.
 pub const BOTH: [&str; 4] = ["--help", "--version", "-h", "-V"];
+
+/// What every help says of them, and of how it ends.
+pub const LISTED: &str = "\
+  -h, --help       prints this help
+  -V, --version    prints the version
+  --               ends the options: all that follows is a name
+";
+
+pub const STATUS: &str = "\
+exit status, the highest that applies: 0 all accepted, 1 a script is refused,
+2 something can't be read or written, or the command line is wrong
+";
 
 pub enum Asked<'a> {
     Help,
@@ -68,23 +83,31 @@ pub fn parse<'a>(words: &'a [OsString], options: &'static [Choice]) -> Result<As
     Ok(Asked::Work(wanted))
 }
 
-/// The option that a word names, and the value behind its `=`, if one is there.
-fn option(word: &OsStr, options: &'static [Choice]) -> Result<(&'static Choice, Option<OsString>), String> {
+/// A word's name, and the value behind its `=`, if one is there.
+pub fn parted(word: &OsStr) -> (&OsStr, Option<OsString>) {
     use std::os::unix::ffi::OsStrExt;
     let bytes = word.as_bytes();
-    let (name, value) = match bytes.iter().position(|&b| b == b'=') {
+    match bytes.iter().position(|&b| b == b'=') {
         Some(i) => (OsStr::from_bytes(&bytes[..i]), Some(OsStr::from_bytes(&bytes[i + 1..]).to_os_string())),
         None => (word, None),
-    };
-    if value.is_some() && BOTH.iter().any(|n| name == *n) {
-        return Err(format!("{} takes no value", quoted(name)));
     }
+}
+
+/// Why there is no such option here.
+pub fn no_option(name: &OsStr, options: &'static [Choice]) -> String {
+    if BOTH.iter().any(|n| name == *n) {
+        return format!("{} takes no value", quoted(name));
+    }
+    let near = nearest(name, BOTH.into_iter().chain(options.iter().map(|o| o.name)));
+    format!("no option is called {}; the nearest is '{near}'", quoted(name))
+}
+
+/// The option that a word names, and its value, if that stands behind a `=`.
+fn option(word: &OsStr, options: &'static [Choice]) -> Result<(&'static Choice, Option<OsString>), String> {
+    let (name, value) = parted(word);
     match options.iter().find(|o| name == o.name) {
         Some(option) => Ok((option, value)),
-        None => {
-            let near = nearest(name, BOTH.into_iter().chain(options.iter().map(|o| o.name)));
-            Err(format!("no option is called {}; the nearest is '{near}'", quoted(name)))
-        }
+        None => Err(no_option(name, options)),
     }
 }
 
@@ -102,29 +125,29 @@ fn chosen(option: &'static Choice, value: Option<OsString>) -> Result<&'static s
     }
 }
 
-/// The name with the fewest slips from the word, a capital for a small letter counted last; the first of these.
+/// The name that the word begins, or else the one with the fewest slips from it, a capital for a small letter counted last. Where the word has two dashes,
+/// so has the name, if there are such.
 pub fn nearest(word: &OsStr, names: impl Iterator<Item = &'static str>) -> &'static str {
     let letters = |text: &str| text.chars().collect::<Vec<char>>();
     let small = |text: &str| letters(&text.to_lowercase());
-    let word = word.to_string_lossy();
-    names.min_by_key(|name| (slips(&small(&word), &small(name)), slips(&letters(&word), &letters(name)))).expect("there are names")
+    let word = &*word.to_string_lossy();
+    let key = |name: &&str| {
+        let dashes = word.starts_with("--") && !name.starts_with("--");
+        (dashes, !name.starts_with(word), slips(&small(word), &small(name)), slips(&letters(word), &letters(name)))
+    };
+    names.min_by_key(key).expect("there are names")
 }
 
-/// How many letters must be put in, left out, changed, or exchanged with their neighbour, to make the one of the other.
+/// How many letters must be put in, left out or changed to make the one of the other.
 fn slips(a: &[char], b: &[char]) -> usize {
-    let mut before: Vec<usize> = Vec::new();
     let mut above: Vec<usize> = (0..=b.len()).collect();
     for i in 1..=a.len() {
         let mut row = vec![i];
         for j in 1..=b.len() {
             let other = (a[i - 1] != b[j - 1]) as usize;
-            let mut least = (above[j] + 1).min(row[j - 1] + 1).min(above[j - 1] + other);
-            if i > 1 && j > 1 && a[i - 1] == b[j - 2] && a[i - 2] == b[j - 1] {
-                least = least.min(before[j - 2] + 1);
-            }
-            row.push(least);
+            row.push((above[j] + 1).min(row[j - 1] + 1).min(above[j - 1] + other));
         }
-        before = std::mem::replace(&mut above, row);
+        above = row;
     }
     above[b.len()]
 }

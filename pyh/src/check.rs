@@ -2,7 +2,7 @@
 use crate::arguments::{Choice, Command, Wanted};
 use crate::output::{say, why, Output};
 use crate::progress::Progress;
-use crate::scripts::Found;
+use crate::scripts::{Found, What};
 use crate::terminal::{Look, GREEN, RED};
 use crate::{json, names, report, scripts, ACCEPTED, REFUSED, TROUBLE};
 use std::ffi::OsStr;
@@ -12,38 +12,48 @@ pub const COMMAND: Command = Command {
     name: "check",
     summary: "says which scripts are refused, where and why, and how many",
     usage: "usage: pyh check [--format text|short|json] PATH...",
-    help: HELP,
+    about: ABOUT,
+    listed: LISTED,
+    notes: NOTES,
     options: &[Choice { name: "--format", values: &["text", "short", "json"] }],
     run: check,
 };
 
-const HELP: &str = "\
+const ABOUT: &str = "\
 Reads each script, says of each that is refused where and why, and at the end
-how many there were. A PATH is a file, a folder (every .pyh file below it; links
-to folders are not followed), or - for standard input.
+how many were read. A PATH is a file, a folder, which stands for every .pyh file
+below it, or - for standard input. What is named twice is read twice. A link to
+a folder is followed where it is a PATH, and else skipped, with a note. A folder
+with no .pyh file below it counts as something that can't be read.
+";
 
-options:
+const LISTED: &str = "\
   --format text    for people, and what is done where no format is named: the
                    line with a caret under the place, and a sentence
   --format short   for editors: FILE:LINE:COLUMN: NUMBER SENTENCE, a line for
                    each refusal; the totals go to standard error
   --format json    for programs: an object on each line. Its kind is refused
                    (with file, line, column, number, place, sentence),
-                   unreadable (file, sentence) or, on the last line, totals
-                   (scripts, accepted, refused, unreadable)
-  -h, --help       prints this help
-  -V, --version    prints the version
-  --               ends the options: all that follows is a name
+                   unreadable or skipped (file, sentence) or, on the last line,
+                   totals (scripts, accepted, refused, unreadable, skipped)
+";
 
+const NOTES: &str = "\
 Lines and columns count from 1. A column counts characters, not bytes: é is one.
 The place in json counts bytes, from 0. A script that is too long (number 1) has
 no place of its own, and stands at 1:1.
 
-Bytes of a name that are no UTF-8 are shown as \\xE9; in json, file_hex then has
-all bytes of the name.
+numbers: 1 too long, 5 no UTF-8, 6 a tab in the indentation, 7 indented by other
+than two more, 8 back on no level, 9 no token, 10 a whole number out of range,
+11 a number with a dot that is not read, 12 a character other than ASCII outside
+of strings and comments, 13 nested too deeply, 14 does not fit the grammar
 
-exit status: 0 all accepted, 1 a script is refused, 2 something can't be read or
-written (a folder with no .pyh file below it, too), or the command line is wrong
+In a name, bytes that are no UTF-8 are shown as in \\xE9, what no one sees as in
+\\n or \\u{1b}, a backslash as \\\\. In json the name is itself; where it is no
+UTF-8, file_hex has all its bytes.
+
+Colours are there on a terminal, unless NO_COLOR is set. A line of progress is
+there for more than 300 scripts, where standard error is a terminal.
 ";
 
 #[derive(Clone, Copy)]
@@ -59,6 +69,7 @@ struct Totals {
     accepted: usize,
     refused: usize,
     unreadable: usize,
+    skipped: usize,
 }
 
 struct Check {
@@ -108,72 +119,98 @@ impl Check {
         self.out.end(status)
     }
 
-    fn one(&mut self, script: &Found, reader: &mut Reader, src: &mut Vec<u8>) {
-        let read = match &script.trouble {
-            Some(trouble) => Err(trouble.clone()),
-            None => scripts::read(&script.name, src).map_err(|e| why(&e)),
-        };
-        match read {
-            Err(trouble) => self.unreadable(&script.name, &trouble),
-            Ok(()) => match reader.read(src) {
-                Ok(_) => self.totals.accepted += 1,
-                Err(e) => self.refused(&script.name, src, e),
+    fn one(&mut self, found: &Found, reader: &mut Reader, src: &mut Vec<u8>) {
+        let name = &found.name;
+        match &found.what {
+            What::Trouble(why) => self.unreadable(name, why),
+            What::Skipped(why) => {
+                self.totals.skipped += 1;
+                self.note("skipped", name, why);
+            }
+            What::Script => match scripts::read(name, src) {
+                Err(e) => self.unreadable(name, &why(&e)),
+                Ok(()) => match reader.read(src) {
+                    Ok(_) => self.totals.accepted += 1,
+                    Err(e) => self.refused(name, src, e),
+                },
             },
         }
     }
 
     fn refused(&mut self, name: &OsStr, src: &[u8], error: Error) {
         self.totals.refused += 1;
-        self.progress.clear();
         let text = match self.format {
             Format::Text => report::text(Some(name), src, error, &self.look) + "\n",
             Format::Short => report::short(name, src, error),
             Format::Json => report::object(name, src, error),
         };
-        self.out.write(&text);
-        // on a terminal the next line of progress must not stand before it
-        if self.look.columns.is_some() {
+        self.put(&text);
+    }
+
+    fn unreadable(&mut self, name: &OsStr, why: &str) {
+        self.totals.unreadable += 1;
+        self.note("unreadable", name, why);
+    }
+
+    /// Something that is no refusal: an object of its kind, or a line on standard error.
+    fn note(&mut self, kind: &str, name: &OsStr, why: &str) {
+        if let Format::Json = self.format {
+            let sentence = json::string(why);
+            self.put(&format!("{{\"kind\":\"{kind}\",{},\"sentence\":{sentence}}}\n", json::file(name)));
+        } else {
             self.out.flush();
+            self.progress.clear();
+            say(&format!("pyh: {}: {why}", names::shown(name)));
         }
     }
 
-    fn unreadable(&mut self, name: &OsStr, trouble: &str) {
-        self.totals.unreadable += 1;
-        self.progress.clear();
-        if let Format::Json = self.format {
-            let sentence = json::string(trouble);
-            self.out.write(&format!("{{\"kind\":\"unreadable\",{},\"sentence\":{sentence}}}\n", json::file(name)));
-        } else {
+    /// On a terminal the line of progress must stand neither before what is printed nor within it.
+    fn put(&mut self, text: &str) {
+        let terminal = self.look.columns.is_some();
+        if terminal {
+            self.progress.clear();
+        }
+        self.out.write(text);
+        if terminal {
             self.out.flush();
-            say(&format!("pyh: {}: {trouble}", names::shown(name)));
         }
     }
 
     /// The line of totals.
     fn sum(&mut self) {
-        let Totals { accepted, refused, unreadable } = self.totals;
+        let Totals { accepted, refused, unreadable, skipped } = self.totals;
         let scripts = accepted + refused;
-        if let Format::Json = self.format {
-            let counts = format!("\"scripts\":{scripts},\"accepted\":{accepted},\"refused\":{refused},\"unreadable\":{unreadable}");
-            self.out.write(&format!("{{\"kind\":\"totals\",{counts}}}\n"));
-            return;
-        }
-        let plain = format!("{refused} refused");
-        let mut line = format!("{scripts} script{}: {accepted} accepted, ", if scripts == 1 { "" } else { "s" });
-        line += &match (self.format, refused) {
-            (Format::Short, _) => plain,
-            (_, 0) => self.look.paint(GREEN, &plain),
-            _ => self.look.paint(RED, &plain),
-        };
-        if unreadable > 0 {
-            line += &format!("; {unreadable} could not be read");
-        }
         match self.format {
+            Format::Json => {
+                let read = format!("\"scripts\":{scripts},\"accepted\":{accepted},\"refused\":{refused}");
+                self.out.write(&format!("{{\"kind\":\"totals\",{read},\"unreadable\":{unreadable},\"skipped\":{skipped}}}\n"));
+            }
             Format::Short => {
                 self.out.flush();
-                say(&line);
+                if !self.out.is_lost() {
+                    say(&self.totals.line(|text| text.to_string()));
+                }
             }
-            _ => self.out.write(&(line + "\n")),
+            Format::Text => {
+                let colour = if refused == 0 { GREEN } else { RED };
+                let line = self.totals.line(|text| self.look.paint(colour, text));
+                self.out.write(&(line + "\n"));
+            }
         }
+    }
+}
+
+impl Totals {
+    fn line(&self, paint: impl Fn(&str) -> String) -> String {
+        let scripts = self.accepted + self.refused;
+        let refused = paint(&format!("{} refused", self.refused));
+        let mut line = format!("{scripts} script{} read: {} accepted, {refused}", if scripts == 1 { "" } else { "s" }, self.accepted);
+        if self.unreadable > 0 {
+            line += &format!("; {} could not be read", self.unreadable);
+        }
+        if self.skipped > 0 {
+            line += &format!("; {} skipped", self.skipped);
+        }
+        line
     }
 }

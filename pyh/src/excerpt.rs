@@ -1,9 +1,10 @@
 //! Lines, columns, and a line with a caret.
 use crate::terminal::{Look, BLUE, RED};
+use crate::widths::{NONE, WIDE};
 
 /// The widest part of a line that is shown where the output is no terminal, and the narrowest where it is one.
 const WIDEST: usize = 100;
-const NARROWEST: usize = 20;
+const NARROWEST: usize = 5;
 
 /// A place of a source for people: line and column count from 1, the column in characters.
 pub struct At {
@@ -28,23 +29,51 @@ pub fn locate(src: &[u8], place: usize) -> At {
 
 /// Marks that no one sees, or that turn the line's direction.
 pub fn unseen(c: char) -> bool {
-    matches!(c as u32, 0x200B..=0x200F | 0x2028..=0x202E | 0x2060..=0x206F | 0xFEFF)
+    matches!(c as u32, 0xAD | 0x61C | 0x180E | 0x200B..=0x200F | 0x2028..=0x202E | 0x2060..=0x206F | 0xFEFF | 0xE0000..=0xE007F)
+}
+
+/// How many columns of a terminal a character takes.
+fn columns(c: char) -> usize {
+    let within = |table: &[(u32, u32)]| {
+        let next = table.partition_point(|range| range.0 <= c as u32);
+        next > 0 && c as u32 <= table[next - 1].1
+    };
+    match c as u32 {
+        0..=0xAC => 1,
+        _ if within(&NONE) => 0,
+        _ if within(&WIDE) => 2,
+        _ => 1,
+    }
 }
 
 /// What is shown for a character, and how many columns it takes.
 fn cell(c: char) -> (char, usize) {
-    let n = c as u32;
-    match n {
+    match c as u32 {
         9 => ('→', 1),
-        0..=31 => (char::from_u32(0x2400 + n).unwrap_or('\u{FFFD}'), 1),
+        n @ 0..=31 => (char::from_u32(0x2400 + n).unwrap_or('▯'), 1),
         127 => ('\u{2421}', 1),
-        0x80..=0x9F => ('\u{FFFD}', 1),
-        _ if unseen(c) => ('\u{FFFD}', 1),
-        0x300..=0x36F | 0x1AB0..=0x1AFF | 0x1DC0..=0x1DFF | 0x20D0..=0x20FF | 0xFE00..=0xFE0F | 0xFE20..=0xFE2F => (c, 0),
-        0x1100..=0x115F | 0x2E80..=0x303E | 0x3041..=0xA4CF | 0xA960..=0xA97F | 0xAC00..=0xD7A3 | 0xF900..=0xFAFF => (c, 2),
-        0xFE30..=0xFE6F | 0xFF00..=0xFF60 | 0xFFE0..=0xFFE6 | 0x1F300..=0x1F64F | 0x1F900..=0x1F9FF | 0x20000..=0x3FFFD => (c, 2),
-        _ => (c, 1),
+        0x80..=0x9F => ('▯', 1),
+        _ if unseen(c) => ('▯', 1),
+        _ => (c, columns(c)),
     }
+}
+
+/// The text in lines of no more than so many columns, parted at spaces.
+pub fn wrapped(text: &str, widest: Option<usize>) -> String {
+    let Some(widest) = widest else { return text.to_string() };
+    let mut out = String::new();
+    let mut taken = 0;
+    for word in text.split(' ') {
+        let wide: usize = word.chars().map(columns).sum();
+        if taken > 0 {
+            let fits = taken + 1 + wide <= widest;
+            out.push(if fits { ' ' } else { '\n' });
+            taken = if fits { taken + 1 } else { 0 };
+        }
+        out.push_str(word);
+        taken += wide;
+    }
+    out
 }
 
 /// Bytes of a script as they can be shown on a line.

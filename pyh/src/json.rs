@@ -1,16 +1,17 @@
 //! Lines of JSON.
+use crate::excerpt::unseen;
 use crate::names;
 use std::ffi::OsStr;
 use std::fmt::Write;
 
-/// A string in quotes, as RFC 8259 has it.
+/// A string in quotes, as RFC 8259 has it; what no one sees, or might take for a line's end, is escaped too.
 pub fn string(text: &str) -> String {
     let mut out = String::from('"');
     for c in text.chars() {
         match c {
             '"' | '\\' => out.extend(['\\', c]),
             '\n' => out.push_str("\\n"),
-            '\u{0}'..='\u{1f}' | '\u{7f}' => _ = write!(out, "\\u{:04x}", c as u32),
+            _ if c.is_control() || unseen(c) => c.encode_utf16(&mut [0; 2]).iter().for_each(|unit| _ = write!(out, "\\u{unit:04x}")),
             _ => out.push(c),
         }
     }

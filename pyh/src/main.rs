@@ -6,6 +6,7 @@ mod check;
 mod drawing;
 mod excerpt;
 mod json;
+mod misfit;
 mod names;
 mod output;
 mod progress;
@@ -13,9 +14,11 @@ mod report;
 mod scripts;
 mod sentence;
 mod show;
+mod source;
 mod terminal;
+mod widths;
 
-use arguments::{nearest, Asked, Command, BOTH};
+use arguments::{nearest, no_option, parted, Asked, Command, LISTED, STATUS};
 use names::quoted;
 use output::{print, say};
 use std::ffi::{OsStr, OsString};
@@ -33,19 +36,14 @@ const USAGE: &str = "usage: pyh COMMAND [OPTION]... [FILE]...";
 
 const HEAD: &str = "pyh shows what the reader makes of kiosk scripts.";
 
-const TAIL: &str = "\
-options, also behind a command:
-  -h, --help       prints this help, or the command's
-  -V, --version    prints the version
-  --               ends the options: all that follows is a name
-
-exit status: 0 all accepted, 1 a script is refused, 2 something can't be read or
-written, or the command line is wrong
-";
-
 fn help() -> String {
     let commands: String = COMMANDS.iter().map(|c| format!("  {:<8} {}\n", c.name, c.summary)).collect();
-    format!("{HEAD}\n\n{USAGE}\n\ncommands, each with --help of its own:\n{commands}\n{TAIL}")
+    format!("{HEAD}\n\n{USAGE}\n\ncommands (pyh help COMMAND says more of one):\n{commands}\noptions, also behind a command:\n{LISTED}\n{STATUS}")
+}
+
+fn help_of(command: &Command) -> String {
+    let Command { usage, about, listed, notes, .. } = command;
+    format!("{usage}\n\n{about}\noptions:\n{listed}{LISTED}\n{notes}\n{STATUS}")
 }
 
 fn version() -> String {
@@ -54,27 +52,41 @@ fn version() -> String {
 
 /// What the words of the command line ask for, and the status.
 fn run(words: &[OsString]) -> u8 {
-    let words = match words.split_first() {
-        Some((first, rest)) if first == "--" => rest,
-        _ => words,
-    };
-    let Some((first, rest)) = words.split_first() else {
-        return wrong("pyh", "no command is named", USAGE);
-    };
-    match first.to_str() {
-        Some("-h" | "--help") => return print(&help()),
-        Some("-V" | "--version") => return print(&version()),
-        _ => {}
+    match words.split_first() {
+        Some((first, _)) if first == "-h" || first == "--help" => print(&help()),
+        Some((first, _)) if first == "-V" || first == "--version" => print(&version()),
+        Some((first, rest)) if first == "--" => named(rest),
+        Some((first, _)) if first != "-" && first.as_encoded_bytes().starts_with(b"-") => wrong("pyh", &not_here(first), USAGE),
+        _ => named(words),
     }
-    match COMMANDS.iter().find(|c| first == c.name) {
-        Some(command) => obey(command, rest),
-        None => wrong("pyh", &no_command(first), USAGE),
+}
+
+/// The first word is a command's name.
+fn named(words: &[OsString]) -> u8 {
+    match words.split_first() {
+        None => wrong("pyh", "no command is named", USAGE),
+        Some((first, rest)) if first == "help" => help_on(rest),
+        Some((first, rest)) => match COMMANDS.iter().find(|c| first == c.name) {
+            Some(command) => obey(command, rest),
+            None => wrong("pyh", &no_command(first), USAGE),
+        },
+    }
+}
+
+/// `pyh help`, `pyh help COMMAND`.
+fn help_on(words: &[OsString]) -> u8 {
+    match words.first() {
+        None => print(&help()),
+        Some(word) => match COMMANDS.iter().find(|c| word == c.name) {
+            Some(command) => print(&help_of(command)),
+            None => wrong("pyh", &no_command(word), USAGE),
+        },
     }
 }
 
 fn obey(command: &Command, words: &[OsString]) -> u8 {
     match arguments::parse(words, command.options) {
-        Ok(Asked::Help) => print(&format!("{}\n\n{}", command.usage, command.help)),
+        Ok(Asked::Help) => print(&help_of(command)),
         Ok(Asked::Version) => print(&version()),
         Ok(Asked::Work(wanted)) => match (command.run)(&wanted) {
             Ok(status) => status,
@@ -89,15 +101,18 @@ fn wrong(who: &str, why: &str, usage: &str) -> u8 {
     TROUBLE
 }
 
-/// Why the first word is no command, and what may be meant.
+/// Why an option can't stand before the command.
+fn not_here(word: &OsStr) -> String {
+    let (name, _) = parted(word);
+    match COMMANDS.iter().find(|c| c.options.iter().any(|o| name == o.name)) {
+        Some(command) => format!("{} stands behind its command, as in 'pyh {} {}'", quoted(name), command.name, names::shown(name)),
+        None => no_option(name, &[]),
+    }
+}
+
+/// Why there is no such command, and what may be meant.
 fn no_command(word: &OsStr) -> String {
     let shown = quoted(word);
-    if word.as_encoded_bytes().starts_with(b"-") && word != "-" {
-        return match COMMANDS.iter().find(|c| c.options.iter().any(|o| word == o.name)) {
-            Some(command) => format!("{shown} stands behind its command, as in 'pyh {} {}'", command.name, names::shown(word)),
-            None => format!("no option is called {shown}; the nearest is '{}'", nearest(word, BOTH.into_iter())),
-        };
-    }
     let path = Path::new(word);
     if path.exists() {
         let meant = if path.is_dir() { "check" } else { "show" };

@@ -3,8 +3,8 @@ use crate::excerpt::unseen;
 use std::ffi::OsStr;
 use std::fmt::Write;
 
-/// The name as it is, but for bytes that are no UTF-8 (`\xE9`) and characters that no one sees or that move the cursor (`\n`, `\u{1b}`). An empty name
-/// is two quotes.
+/// The name as it is, but for bytes that are no UTF-8 (`\xE9`), characters that no one sees or that move the cursor (`\n`, `\u{1b}`), and the backslash
+/// (`\\`), so that no two names look alike. An empty name is two quotes.
 pub fn shown(name: &OsStr) -> String {
     if name.is_empty() {
         return "''".to_string();
@@ -16,7 +16,7 @@ fn escaped(name: &OsStr) -> String {
     let mut out = String::new();
     for part in name.as_encoded_bytes().utf8_chunks() {
         for c in part.valid().chars() {
-            match c.is_control() || unseen(c) {
+            match c.is_control() || unseen(c) || c == '\\' {
                 true => out.extend(c.escape_default()),
                 false => out.push(c),
             }

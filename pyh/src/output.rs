@@ -1,16 +1,27 @@
-//! Standard output and standard error. No write that fails is a panic.
+//! The process's streams. No write that fails is a panic.
 use crate::{ACCEPTED, TROUBLE};
+use std::fs::File;
 use std::io::{self, ErrorKind, Write};
+use std::mem::ManuallyDrop;
+use std::os::fd::{FromRawFd, RawFd};
+
+/// A stream of the process by its number. The library's own handles take one that can't be read for an empty one, and one that can't be written for one
+/// that takes all.
+pub fn stream(number: RawFd) -> ManuallyDrop<File> {
+    // never dropped, so that it stays open
+    ManuallyDrop::new(unsafe { File::from_raw_fd(number) })
+}
 
 /// Standard output, and the first write of it that failed.
 pub struct Output {
-    writer: io::BufWriter<io::StdoutLock<'static>>,
+    writer: ManuallyDrop<io::BufWriter<File>>,
     failed: Option<io::Error>,
 }
 
 impl Output {
     pub fn new() -> Output {
-        Output { writer: io::BufWriter::with_capacity(1 << 16, io::stdout().lock()), failed: None }
+        let file = ManuallyDrop::into_inner(stream(1));
+        Output { writer: ManuallyDrop::new(io::BufWriter::with_capacity(1 << 16, file)), failed: None }
     }
 
     pub fn write(&mut self, text: &str) {

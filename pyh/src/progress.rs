@@ -10,17 +10,15 @@ const FEW: usize = 300;
 const PAUSE: Duration = Duration::from_millis(50);
 
 pub struct Progress {
-    /// Of the terminal; none where there is no line.
-    columns: Option<usize>,
-    /// When a line was last drawn.
-    last: Option<Instant>,
-    /// Whether it is still there.
-    there: bool,
+    /// Whether there is a terminal for it.
+    shown: bool,
+    /// When the line was last drawn; none where it is not there.
+    drawn: Option<Instant>,
 }
 
 impl Progress {
     pub fn new() -> Progress {
-        Progress { columns: columns(&io::stderr()).filter(|_| moves()), last: None, there: false }
+        Progress { shown: columns(&io::stderr()).is_some() && moves(), drawn: None }
     }
 
     /// While scripts are looked for.
@@ -33,19 +31,18 @@ impl Progress {
     }
 
     fn draw(&mut self, of: usize, line: impl Fn() -> String) {
-        let Some(columns) = self.columns.filter(|_| of > FEW) else { return };
-        if self.last.is_none_or(|last| last.elapsed() >= PAUSE) {
-            // a line that reaches the last column would go on below it
-            let line: String = line().chars().take(columns.saturating_sub(1)).collect();
+        if self.shown && of > FEW && self.drawn.is_none_or(|then| then.elapsed() >= PAUSE) {
+            // a line that reaches the last column would go on below it; the terminal may have become narrower
+            let widest = columns(&io::stderr()).unwrap_or(80).saturating_sub(1);
+            let line: String = line().chars().take(widest).collect();
             let _ = write!(io::stderr(), "\r{line}\x1b[K");
-            self.last = Some(Instant::now());
-            self.there = true;
+            self.drawn = Some(Instant::now());
         }
     }
 
-    /// Takes the line away, before something else is printed.
+    /// Takes the line away, before something else is printed. The next one is drawn at once.
     pub fn clear(&mut self) {
-        if std::mem::take(&mut self.there) {
+        if self.drawn.take().is_some() {
             let _ = write!(io::stderr(), "\r\x1b[K");
         }
     }

@@ -10,7 +10,7 @@ pub fn text(name: Option<&OsStr>, src: &[u8], error: Error, look: &Look) -> Stri
         Some(name) => format!("{}: {}", look.paint(BOLD, &names::shown(name)), look.paint(RED, "refused")),
         None => look.paint(RED, "Refused"),
     };
-    let why = sentence::sentence(src, error);
+    let why = excerpt::wrapped(&sentence::sentence(src, error), look.columns);
     let number = error.number();
     if matches!(error, Error::TooLong) {
         return format!("{head} (number {number})\n{why}\n");

@@ -1,5 +1,5 @@
 //! Finding scripts below folders, and reading one.
-use crate::output::why;
+use crate::output::{stream, why};
 use std::ffi::{OsStr, OsString};
 use std::fs::{self, File};
 use std::io::{self, Read};
@@ -14,7 +14,7 @@ pub fn read(name: &OsStr, src: &mut Vec<u8>) -> io::Result<()> {
     src.clear();
     let most = LONGEST as u64 + 1;
     match name == INPUT {
-        true => io::stdin().lock().take(most).read_to_end(src)?,
+        true => (&*stream(0)).take(most).read_to_end(src)?,
         false => File::open(name)?.take(most).read_to_end(src)?,
     };
     Ok(())
@@ -28,75 +28,80 @@ pub fn input_once(names: &[&OsStr]) -> Result<(), String> {
     }
 }
 
-/// A script, or what is in its place, and why it can't be read.
+/// Something that was found where scripts were looked for.
 pub struct Found {
     pub name: OsString,
-    pub trouble: Option<String>,
+    pub what: What,
 }
 
-/// Each name that is no folder, and the scripts below each that is one. `found` is told how many there are so far.
+pub enum What {
+    Script,
+    /// It can't be read, and why.
+    Trouble(String),
+    /// It was passed over, and why.
+    Skipped(String),
+}
+
+/// Each name that is no folder, and what is below each that is one. `found` is told how many there are so far.
 pub fn find(names: &[&OsStr], mut found: impl FnMut(usize)) -> Vec<Found> {
-    let mut scripts = Vec::new();
+    let mut all = Vec::new();
     for &name in names {
         if name != INPUT && Path::new(name).is_dir() {
-            let before = scripts.len();
-            below(Path::new(name), &mut scripts, &mut found);
-            if scripts.len() == before {
-                scripts.push(Found { name: name.into(), trouble: Some("no .pyh file is below it".to_string()) });
+            let before = all.len();
+            below(Path::new(name), &mut all, &mut found);
+            if all[before..].iter().all(|f| matches!(f.what, What::Skipped(_))) {
+                all.push(Found { name: name.into(), what: What::Trouble("no .pyh file is below it".to_string()) });
             }
         } else {
-            scripts.push(Found { name: name.into(), trouble: None });
+            all.push(Found { name: name.into(), what: What::Script });
         }
     }
-    scripts
+    all
 }
 
-/// What matters of a folder's entries.
-enum Entry {
-    Folder,
-    Script,
-    /// It has a script's name and is no file, as a pipe: a read of it may wait for ever.
-    NoFile,
-}
-
-/// The scripts below a folder, in the order of their names. Links to folders are not followed, so that none is read without end.
-fn below(folder: &Path, scripts: &mut Vec<Found>, found: &mut impl FnMut(usize)) {
-    let mut waiting = vec![(folder.to_path_buf(), Entry::Folder)];
-    while let Some((path, entry)) = waiting.pop() {
-        let trouble = match entry {
-            Entry::Script => None,
-            Entry::NoFile => Some("it is no file".to_string()),
-            Entry::Folder => match entries(&path) {
+/// What is below a folder, in the order of names.
+fn below(folder: &Path, all: &mut Vec<Found>, found: &mut impl FnMut(usize)) {
+    let mut waiting = vec![(folder.to_path_buf(), None)];
+    while let Some((path, what)) = waiting.pop() {
+        let what = match what {
+            Some(what) => what,
+            None => match entries(&path) {
                 Ok(mut entries) => {
                     entries.sort_by(|a, b| b.0.as_os_str().cmp(a.0.as_os_str()));
                     waiting.append(&mut entries);
                     continue;
                 }
-                Err(e) => Some(why(&e)),
+                Err(e) => What::Trouble(why(&e)),
             },
         };
-        scripts.push(Found { name: path.into(), trouble });
-        found(scripts.len());
+        all.push(Found { name: path.into(), what });
+        found(all.len());
     }
 }
 
-fn entries(folder: &Path) -> io::Result<Vec<(PathBuf, Entry)>> {
+/// What matters of a folder's entries; nothing is known yet of a folder in it. Links to folders are not followed, so that none is read without end.
+fn entries(folder: &Path) -> io::Result<Vec<(PathBuf, Option<What>)>> {
     let mut entries = Vec::new();
     for entry in fs::read_dir(folder)? {
         let entry = entry?;
         let path = entry.path();
         let kind = entry.file_type()?;
-        if kind.is_dir() {
-            entries.push((path, Entry::Folder));
-        } else if path.extension().is_some_and(|e| e == "pyh") {
-            // what a link leads to; one that leads nowhere is tried and can't be read
-            let end = if kind.is_symlink() { fs::metadata(&path).map(|m| m.file_type()).ok() } else { Some(kind) };
-            match end {
-                Some(end) if end.is_dir() => {}
-                Some(end) if !end.is_file() => entries.push((path, Entry::NoFile)),
-                _ => entries.push((path, Entry::Script)),
-            }
+        // what a link leads to; one that leads nowhere is tried and can't be read
+        let end = if kind.is_symlink() { fs::metadata(&path).map(|m| m.file_type()).ok() } else { Some(kind) };
+        match end {
+            _ if kind.is_dir() => entries.push((path, None)),
+            Some(end) if end.is_dir() => entries.push((path, Some(What::Skipped("a link to a folder is not followed".to_string())))),
+            _ if !is_named(&path) => {}
+            // a read of it may wait for ever
+            Some(end) if !end.is_file() => entries.push((path, Some(What::Trouble("it is not a regular file".to_string())))),
+            _ => entries.push((path, Some(What::Script))),
         }
     }
     Ok(entries)
+}
+
+/// The name ends in `.pyh`, in small letters or capitals.
+fn is_named(path: &Path) -> bool {
+    let bytes = path.as_os_str().as_encoded_bytes();
+    bytes.len() >= 4 && bytes[bytes.len() - 4..].eq_ignore_ascii_case(b".pyh")
 }

@@ -4,32 +4,29 @@ use crate::output::{say, why, Output};
 use crate::terminal::Look;
 use crate::{drawing, names, report, scripts, ACCEPTED, REFUSED, TROUBLE};
 use std::ffi::OsStr;
+use std::io::ErrorKind;
 use tarbucket::Reader;
 
 pub const COMMAND: Command = Command {
     name: "show",
     summary: "draws a script's tree, or shows where and why it is refused",
     usage: "usage: pyh show [FILE]...",
-    help: HELP,
+    about: ABOUT,
+    listed: "",
+    notes: NOTES,
     options: &[],
     run: show,
 };
 
-const HELP: &str = "\
-Draws the tree of each script that is accepted: a line for each node, its parts
-indented below it. Of a script that is refused it shows the line with a caret
-under the place, and says why. Where no FILE is named, and for -, it reads
-standard input.
+const ABOUT: &str = "\
+Draws the tree of each script that is accepted, the parts of a node indented
+below it. Of a script that is refused it shows the line with a caret under the
+place, and says why. Where no FILE is named, and for -, it reads standard input.
+";
 
-options:
-  -h, --help       prints this help
-  -V, --version    prints the version
-  --               ends the options: all that follows is a name
-
+const NOTES: &str = "\
 Lines and columns count from 1. A column counts characters, not bytes: é is one.
-
-exit status: 0 all accepted, 1 a script is refused, 2 something can't be read or
-written, or the command line is wrong
+Colours are there on a terminal, unless NO_COLOR is set.
 ";
 
 fn show(wanted: &Wanted) -> Result<u8, String> {
@@ -45,8 +42,9 @@ fn show(wanted: &Wanted) -> Result<u8, String> {
     let mut status = ACCEPTED;
     for name in &names {
         if let Err(e) = scripts::read(name, &mut src) {
+            let advice = if e.kind() == ErrorKind::IsADirectory { ": 'pyh check' takes folders" } else { "" };
             out.flush();
-            say(&format!("pyh: {}: {}", names::shown(name), why(&e)));
+            say(&format!("pyh: {}: {}{advice}", names::shown(name), why(&e)));
             status = TROUBLE;
             continue;
         }

@@ -26,7 +26,7 @@ def run(cases, work, tally):
             tally.case("known: %r" % source[:200], False, "%s, and not %s" % (said.get("./%04d.pyh" % k), wanted))
     tally.case("known: %d sources" % len(expected), len(expected) > 1500 and not wrong)
     count = sum(1 for number, _ in expected.values() if number)
-    wanted = {"kind": "totals", "scripts": len(expected), "accepted": len(expected) - count, "refused": count, "unreadable": 0}
+    wanted = {"kind": "totals", "scripts": len(expected), "accepted": len(expected) - count, "refused": count, "unreadable": 0, "skipped": 0}
     tally.case("known: totals", totals == wanted and len(refused) == count and done.returncode == 1, totals)
 
 

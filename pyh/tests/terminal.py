@@ -7,6 +7,7 @@ import struct
 import subprocess
 import termios
 import threading
+import time
 
 LONG = '["%s"] oben ["%s"]\n' % ('", "'.join("Halle %d" % i for i in range(40)), '", "'.join("층 %d" % i for i in range(40)))
 DEEP = "(" * 30 + "a" + ",)" * 30 + "\n"
@@ -22,6 +23,9 @@ SHOWN = [
     ("show_no_color", ["show", "long.pyh"], 80, {"NO_COLOR": "1"}),
     ("show_no_color_empty", ["show", "long.pyh"], 80, {"NO_COLOR": ""}),
     ("show_dumb", ["show", "long.pyh"], 80, {"TERM": "dumb"}),
+    ("show_term_empty", ["show", "long.pyh"], 80, {"TERM": ""}),
+    ("show_term_unset", ["show", "long.pyh"], 80, {"TERM": None}),
+    ("show_sentence", ["show", "words.pyh"], 40, {"NO_COLOR": "1"}),
     ("check_text", ["check", "good.pyh", "long.pyh", "missing.pyh"], 80, {}),
     ("check_accepted", ["check", "good.pyh"], 80, {}),
     ("check_short", ["check", "--format", "short", "good.pyh", "long.pyh"], 80, {}),
@@ -31,7 +35,7 @@ SHOWN = [
 
 
 def run(cases, work, tally):
-    for name, text in (("good.pyh", "lift = 3\n"), ("long.pyh", LONG), ("deep.pyh", DEEP)):
+    for name, text in (("good.pyh", "lift = 3\n"), ("long.pyh", LONG), ("deep.pyh", DEEP), ("words.pyh", "left = total-1\n")):
         with open(os.path.join(work, name), "w", encoding="utf8") as file:
             file.write(text)
     for name, words, columns, other in SHOWN:
@@ -58,7 +62,8 @@ def on_terminal(words, work, columns, other={}, streams=("stdout", "stderr")):
     ours, theirs = pty.openpty()
     fcntl.ioctl(theirs, termios.TIOCSWINSZ, struct.pack("HHHH", 24, columns, 0, 0))
     pipes = {stream: theirs if stream in streams else subprocess.DEVNULL for stream in ("stdout", "stderr")}
-    process = subprocess.Popen(["pyh"] + words, cwd=work, stdin=subprocess.DEVNULL, env={**os.environ, **other}, **pipes)
+    env = {name: value for name, value in {**os.environ, **other}.items() if value is not None}
+    process = subprocess.Popen(["pyh"] + words, cwd=work, stdin=subprocess.DEVNULL, env=env, **pipes)
     os.close(theirs)
     timer = threading.Timer(60, process.kill)
     timer.start()
@@ -97,6 +102,9 @@ def progress(work, tally):
         tally.case("progress: a line for %d scripts" % count, LINE.search(some) and status == 1, some)
         alone = subprocess.run(["pyh", "check", str(count)], cwd=work, capture_output=True).stdout
         tally.case("progress: nothing of it is left", screen(some) == alone.decode(), screen(some))
+    slow, _ = while_waiting(work)
+    tally.case("progress: how far it is", b"\r302 of 303 scripts, 2 refused\x1b[K" in slow, slow)
+    tally.case("progress: drawn again behind a refusal", slow.rindex(b"refused\x1b[K") > slow.rindex(b"does not fit"), slow)
     dumb, _ = on_terminal(["check", "2000"], work, 80, {"TERM": "dumb"})
     tally.case("progress: none on a terminal that can't", b"\x1b" not in dumb and not re.search(rb"\r[^\n]", dumb), dumb)
     errors, _ = on_terminal(["check", "2000"], work, 80, {}, ["stderr"])
@@ -106,6 +114,20 @@ def progress(work, tally):
     narrow, _ = on_terminal(["check", "2000"], work, 12, {"NO_COLOR": "1"}, ["stderr"])
     widest = max(map(len, re.findall(rb"\r([^\r\x1b]*)", narrow)))
     tally.case("progress: no wider than the terminal", 0 < widest < 12, narrow)
+
+
+def while_waiting(work):
+    """301 scripts, then one that is a while in coming, and one more."""
+    slow = os.path.join(work, "slow")
+    os.mkfifo(slow)
+
+    def feed():
+        time.sleep(0.3)
+        with open(slow, "w") as pipe:
+            pipe.write("a\n")
+
+    threading.Thread(target=feed, daemon=True).start()
+    return on_terminal(["check", "301", "slow", "good.pyh"], work, 80, {"NO_COLOR": "1"})
 
 
 def screen(written):

@@ -5,6 +5,7 @@ and --write fills in what their commands print."""
 import difflib
 import glob
 import os
+import resource
 import shutil
 import signal
 import subprocess
@@ -66,6 +67,26 @@ def make_kiosks(folder):
     put(folder, "names/two\nlines \x1b[31m.pyh", b"a b\n")
     put(folder, "names/-h", b"a b\n")
     put(folder, "names/--format=json", b"a b\n")
+    put(folder, "names/caf\\xE9.pyh", b"a b\n")
+    put(folder, "names/seen\u202e\u00ad.pyh", b"a b\n")
+    put(folder, "capitals/ONE.PYH", b"a b\n")
+    put(folder, "capitals/two.Pyh", b"a\n")
+    put(folder, "capitals/.pyh", b"a\n")
+    put(folder, "capitals/pyh", b"a b\n")
+    too_deep(os.path.join(folder, "deep"))
+
+
+def too_deep(folder):
+    """Folders in one another, with a script in each, until the name of one is too long to be opened."""
+    here = os.getcwd()
+    os.mkdir(folder)
+    os.chdir(folder)
+    for _ in range(17):
+        with open("a.pyh", "w") as file:
+            file.write("a\n")
+        os.mkdir("d" * 250)
+        os.chdir("d" * 250)
+    os.chdir(here)
 
 
 def replay(file, text, folder, tally):
@@ -78,7 +99,8 @@ def replay(file, text, folder, tally):
     for name, was, comes in zip(*map(commands_of, (now, stored, now))):
         shown = "".join(difflib.unified_diff(was.splitlines(True), comes.splitlines(True), "stored", "printed"))
         tally.case("%s: %s" % (os.path.basename(file), name.splitlines()[0]), was == comes, shown)
-    tally.case(os.path.basename(file), stored == now, "what is stored has other commands")
+    lists = [[part.splitlines()[0] for part in commands_of(text)] for text in (stored, now)]
+    tally.case(os.path.basename(file), lists[0] == lists[1] and lists[1], "what is stored has other commands")
 
 
 def commands_of(text):
@@ -86,8 +108,14 @@ def commands_of(text):
     return ["$ " + part for part in ("\n" + text).split("\n$ ")[1:]]
 
 
+def limited():
+    """A program that reads without end must not take all memory."""
+    resource.setrlimit(resource.RLIMIT_AS, (1 << 30, 1 << 30))
+
+
 def transcript(line, folder):
-    process = subprocess.Popen(["sh", "-c", line[2:]], cwd=folder, stdin=subprocess.DEVNULL, stdout=subprocess.PIPE, stderr=subprocess.PIPE, start_new_session=True)
+    pipes = dict(stdin=subprocess.DEVNULL, stdout=subprocess.PIPE, stderr=subprocess.PIPE)
+    process = subprocess.Popen(["sh", "-c", line[2:]], cwd=folder, start_new_session=True, preexec_fn=limited, **pipes)
     try:
         out, err = process.communicate(timeout=LIMIT)
         ended = str(process.returncode)

@@ -30,7 +30,7 @@ pub struct Call {
     text: Vec<u8>,
     tree: Vec<u32>,
     pub answer: [u32; 6],
-    /// The stack pointer right before the call.
+    /// The stack pointer before the call's arguments are put on the stack.
     pub pointer: usize,
 }
 
@@ -56,18 +56,27 @@ impl Call {
 /// What a thread starts with: a `Call`, which nobody else touches until the thread has ended.
 pub unsafe extern "C" fn run(call: *mut c_void) -> *mut c_void {
     let call = &mut *(call as *mut Call);
-    asm!("mov {}, rsp", out(reg) call.pointer, options(nomem, nostack, preserves_flags));
-    tarbucket_parse_source(
-        call.src.as_ptr(),
-        call.src.len(),
-        call.tokens.as_mut_ptr(),
-        call.tokens.len(),
-        call.text.as_mut_ptr(),
-        call.text.len(),
-        call.tree.as_mut_ptr(),
-        call.tree.len(),
-        call.answer.as_mut_ptr(),
-        6,
+    // By hand, so that the arguments on the stack are surely counted: a compiler may put them there before or behind where the pointer is read.
+    asm!(
+        "mov r12, rsp",
+        "push 6",
+        "push {answer}",
+        "push {tree_len}",
+        "push {tree}",
+        "call {parse}",
+        "mov rsp, r12",
+        parse = sym tarbucket_parse_source,
+        in("rdi") call.src.as_ptr(),
+        in("rsi") call.src.len(),
+        in("rdx") call.tokens.as_mut_ptr(),
+        in("rcx") call.tokens.len(),
+        in("r8") call.text.as_mut_ptr(),
+        in("r9") call.text.len(),
+        tree = in(reg) call.tree.as_mut_ptr(),
+        tree_len = in(reg) call.tree.len(),
+        answer = in(reg) call.answer.as_mut_ptr(),
+        out("r12") call.pointer,
+        clobber_abi("C"),
     );
     null_mut()
 }

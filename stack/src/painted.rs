@@ -53,7 +53,7 @@ impl Stack {
         Stack { low, attributes }
     }
 
-    /// The bytes that the call takes: from the stack pointer before it down to the lowest byte that is not paint any more.
+    /// The bytes that the call takes: from the stack pointer before its arguments down to the lowest byte that is not paint any more.
     pub fn measure(&self, paint: u8, call: &mut Call) -> usize {
         let mut thread = 0;
         unsafe {

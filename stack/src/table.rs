@@ -68,11 +68,12 @@ pub fn check() -> ExitCode {
     let (all, ended) = measured();
     let [promise, binding] = promised();
     print_table(&all);
+    println!("\nIn a source's name, `$` is where the next level stands.");
     let mut faults: Vec<String> = all.iter().filter_map(|one| one.fault(promise)).collect();
     let passed = all.len() - faults.len();
     if let Some(deepest) = all.iter().filter(|one| one.whole()).max_by_key(|one| one.taken) {
         println!(
-            "\ndeepest of all: {} bytes, source {}, {}, {}",
+            "deepest of all: {} bytes, source {}, {}, {}",
             grouped(deepest.taken),
             deepest.number,
             deepest.sort,
