@@ -13,7 +13,6 @@ use Rattle.pyhyeon.specs.Prices.{writes, needs, gives}
 use Rattle.joint.proofs.Bounds.{Bounded}
 use Rattle.joint.proofs.Counts.{Modest}
 use Rattle.expr.specs.Parts.{member, name, valued}
-use Rattle.pyhyeon.specs.Rules.{E}
 
 pub low-postfix : T (low pyhyeon 100 100 (many postfix))
 unfolding low takes least rank

@@ -2,11 +2,10 @@
 -- Assumes nothing.
 use Prim.Native.Nat.{ℕ}
 use mathlib.Core.Bool.{Bool, true, false}
-use Rattle.grammar.specs.Grammar.{Part, skip, act, tok, call, _⨾_, _∕_, many, tail}
+use Rattle.grammar.specs.Grammar.{Part, skip, act, tok, call, _⨾_, _∕_, tail}
 use Rattle.token.specs.Code.{LBrace, RBrace, RParen, RBracket, Colon, Comma}
 use Rattle.ast.specs.Kind as kind
 use Rattle.pyhyeon.specs.Action.{Action, mark, named, list-one, list-done, enclose, group, tuple, pair, apply, index, lambda}
-use Rattle.pyhyeon.specs.Rules as rules
 use Rattle.pyhyeon.specs.Rules.{Rule, E, tk, names, more, list, parameters, entry, rest}
 
 -- a member of a list: a pair, or an E; and the rest of such a list

@@ -25,7 +25,7 @@ use Rattle.leaves.specs.declared.Parsed.{Parsed}
 use Rattle.leaves.specs.declared.Parsed.the-variants.{Node}
 use Rattle.lookahead.specs.Tokens.{eofAt, textBefore, tokensOf, symbolAt}
 use Rattle.leaves.specs.Contract.{past, added, kept, Shape, a-node, a-list, Comes, Writes, Literals, Changes, Wraps, Joins}
-use Rattle.leaves.proofs.Frames.{frame-none, frame-then}
+use Rattle.leaves.proofs.Frames.{frame-none}
 use Rattle.joint.proofs.Chain.{tok-then, act-then, act-last}
 
 -- the node that a leaf wrote, by its number

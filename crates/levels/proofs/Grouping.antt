@@ -33,7 +33,7 @@ use Rattle.levels.proofs.Operands.{Joint, Goes}
 abbrev pub term : Rule → List ℕ → Part Action Rule
 term r ops = tok ops ⨾ act mark ⨾ call r ⨾ act binary
 
--- it begins with an operator
+-- It begins with an operator. No rule has such a part for comparisons, of which the laws hold all the same.
 pub begins-level : (l : Level) → begins first (term (operand l) (operators l)) ≡ operators l
 unfolding begins null
 begins-level level.Or = refl

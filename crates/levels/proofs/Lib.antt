@@ -2,5 +2,5 @@ pub mod Standing
 pub mod Operators
 pub mod Operands
 pub mod Grouping
-pub mod Chaining
+pub mod Joining
 pub mod Comparing

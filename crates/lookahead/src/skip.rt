@@ -1,4 +1,4 @@
-// Runs of tokens that are passed one by one: the Newlines around a Line, and the signs of U.
+// Runs of tokens that are passed one by one: the Newlines around a Line, and the signs of U, with what stands behind these.
 ghost use mathlib.Core.Path.{_≡_};
 ghost use mathlib.Core.Bool.{true};
 ghost use mathlib.Core.List.{[], _∷_};

@@ -2,7 +2,7 @@
 -- Assumes nothing.
 use borrow.Author.Needs.{needs}
 use native.Mathlib.Omega.{arith}
-use Rattle.levels.proofs.Chaining.{compared-none, compared-first, compared-further}
+use Rattle.levels.proofs.Joining.{compared-none, compared-first, compared-further}
 use Rattle.levels.proofs.compared.Statement.{statement}
 use Rattle.levels.proofs.compared.Tie as tie
 

@@ -1,7 +1,7 @@
 -- `levels::joined` meets its contract: by what stands before the operand, nothing, or the leaf of a Binary.
 -- Assumes nothing.
 use borrow.Author.Needs.{needs}
-use Rattle.levels.proofs.Standing.{joined-none, joined-one}
+use Rattle.levels.proofs.Joining.{joined-none, joined-one}
 use Rattle.levels.proofs.joined.Statement.{statement}
 use Rattle.levels.proofs.joined.Tie as tie
 

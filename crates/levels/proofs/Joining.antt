@@ -1,8 +1,8 @@
--- An operand of comparisons: the three ways to compare it with what stands before it.
+-- The ways to join an operand to what stands before it: two for the levels that group left, three for comparisons.
 -- Assumes nothing.
-use mathlib.Core.Path.{_≡_, refl, sym}
+use mathlib.Core.Path.{_≡_, refl}
 use mathlib.Core.List.{List, [], _∷_}
-use Prim.Native.Nat.{ℕ, _+_}
+use Prim.Native.Nat.{ℕ}
 use native.Mathlib.Omega.{arith}
 use Rattle.token.specs.declared.TokenNumber.{TokenNumber}
 use Rattle.token.specs.declared.NodeNumber.{NodeNumber}
@@ -13,10 +13,21 @@ use Rattle.leaves.specs.declared.Added.{Added}
 use Rattle.leaves.specs.Contract.{added, Writes, Joins}
 use Rattle.leaves.proofs.Frames.{frame-then}
 use Rattle.joint.proofs.Ends.{compare-is, compare-more-is}
-use Rattle.levels.specs.declared.Chain.{Chain}
+use Rattle.levels.specs.declared.Before.the-variants as before
 use Rattle.levels.specs.declared.Chain.the-variants as links
-use Rattle.levels.specs.Levels.{Chains, Compared}
+use Rattle.levels.specs.Levels.{Joined, Chains, Compared}
 
+-- Joined to nothing, and by an operator.
+pub joined-none : {src toks : List ℕ} {n : NodeNumber} {s : State} {tr : List ℕ} → Joined src toks before.Nothing n s tr (record { 0 = n; 1 = s }) tr
+joined-none = record { alone = λ e. (refl, refl); both = λ o l e. let z : _≡_ {A = ℕ} 0 1 = cc in absurd (omega arith) }
+
+pub joined-one : {src toks : List ℕ} {op : TokenNumber} {l n : NodeNumber} {s : State} {tr : List ℕ} {r : Added} {tr′ : List ℕ} → Writes src toks binary (node (n .0) ∷ token (op .0) ∷ node (l .0) ∷ []) s tr r tr′ → Joined src toks (before.Operator op l) n s tr r tr′
+joined-one {op = op} {l} w = record {
+  alone = λ e. let z : _≡_ {A = ℕ} 0 1 = cc in absurd (omega arith);
+  both = λ o₁ l₁ e. let a : op ≡ o₁ = cc in let b : l ≡ l₁ = cc in rw (← a, ← b) w;
+}
+
+-- Compared with nothing, with an operand, and with a chain.
 module _ {src toks : List ℕ} {n : NodeNumber} {s : State} {tr : List ℕ} where
   pub compared-none : Compared src toks links.Nothing n s tr (record { 0 = n; 1 = s }) tr
   compared-none = record {
