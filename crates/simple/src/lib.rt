@@ -158,20 +158,18 @@ pub fn simples(src: &[u8], toks: &[u32], tree: &mut [u32], left: u32, s: State) 
         loop {
             let inner = rule_simple(src, toks, tree, left, st);
             match inner {
-                Parsed::Node(n, after) => {
-                    let first = joined(tree, before, n, after);
-                    let end = after.at;
-                    if lookahead::is_symbol(
-                        lookahead::symbol_at(src, toks, end),
-                        token::SEMICOLON,
-                    ) {
+                Parsed::Node(n, done) => {
+                    let first = joined(tree, before, n, done);
+                    let end = done.at;
+                    let symbol = lookahead::symbol_at(src, toks, end);
+                    if lookahead::is_symbol(symbol, token::SEMICOLON) {
                         let t = end.0 + 1;
                         let next = TokenNumber(t);
                         let on = State {
                             at: next,
-                            nodes: after.nodes,
-                            opened: after.opened,
-                            used: after.used,
+                            nodes: done.nodes,
+                            opened: done.opened,
+                            used: done.used,
                         };
                         if lookahead::begins_simple(lookahead::symbol_at(src, toks, next)) {
                             before = Before::List(first, n);
@@ -180,7 +178,7 @@ pub fn simples(src: &[u8], toks: &[u32], tree: &mut [u32], left: u32, s: State) 
                             return line_end(src, toks, first, on);
                         }
                     } else {
-                        return line_end(src, toks, first, after);
+                        return line_end(src, toks, first, done);
                     }
                 }
                 Parsed::Refused(code, after) => return Parsed::Refused(code, after),

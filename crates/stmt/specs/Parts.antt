@@ -7,17 +7,13 @@ use Rattle.grammar.specs.Grammar.{Part, act, see, call, _⨾_, _∕_, many}
 use Rattle.token.specs.Code.{Def, Elif, Else, In, LParen, RParen, Colon, Indent, Dedent, Newline, Eof}
 use Rattle.ast.specs.Kind as kind
 use Rattle.pyhyeon.specs.Action.{Action, mark, list-none, list-one, list-join, list-done, branch, elif, else, while, for, define, class, program}
-use Rattle.pyhyeon.specs.Rules.{Rule, Line, Block, E, tk, called, more, parameters, newlines, definition, elifs}
+use Rattle.pyhyeon.specs.Rules.{Rule, Block, E, tk, called, more, parameters, newlines, definition, elifs}
 use Rattle.pyhyeon.specs.Tables.{linesOn}
 use Rattle.leaves.specs.declared.State.{State}
 
 -- where Program begins: no token taken, no node written, no rule opened
 abbrev pub start : State
 start = record { at = record { 0 = 0 }; nodes = 0; opened = 0; used = 0 }
-
--- the Lines after the first of them
-abbrev pub linesRest : Part Action Rule
-linesRest = many (call Line ⨾ newlines ⨾ act list-join) ⨾ act list-done
 
 -- what stands between Indent and Dedent; and with these two
 abbrev pub inner : Part Action Rule

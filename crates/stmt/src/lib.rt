@@ -10,22 +10,23 @@ ghost use mathlib.Core.List.{List, [], _∷_};
 ghost use Prim.Native.Nat.{ℕ, _<_, _≤_};
 ghost use Rattle.grammar.specs.Sets.{mem};
 ghost use Rattle.grammar.specs.Grammar.{call};
-ghost use Rattle.token.specs.Code.{Elif, Dedent};
+ghost use Rattle.token.specs.Code.{Elif, Dedent, Newline};
 ghost use Rattle.ast.specs.Kind as kind;
 ghost use Rattle.pyhyeon.specs.Machine.{token, node, growing, list};
 ghost use Rattle.pyhyeon.specs.Rules.{Line, Block, Class, tk};
 ghost use Rattle.pyhyeon.specs.Rules as rules;
-ghost use Rattle.pyhyeon.specs.Tables.{linesOn};
+ghost use Rattle.pyhyeon.specs.Tables.{linesOn, firstLine};
 ghost use Rattle.lookahead.specs.Tokens.{eofAt, textBefore, symbolAt, Tokens};
 ghost use Rattle.leaves.specs.Contract.{a-node, a-list, a-growing, Rules, Parts, Lists, Ready, Begun};
 ghost use Rattle.simple.specs.Parts.{Newest};
 ghost use Rattle.stmt.specs.Guards.{Guards};
-ghost use Rattle.stmt.specs.Parts.{linesRest, inner, indentedOn, classOn, leading, member, others, methodsOn, classEnd, namedOn, givenOn, elifsOn, elseOn, branches, ifOn, elifOn, whileOn, rangeOn, forOn};
+ghost use Rattle.stmt.specs.Parts.{inner, indentedOn, classOn, leading, member, others, methodsOn, classEnd, namedOn, givenOn, elifsOn, elseOn, branches, ifOn, elifOn, whileOn, rangeOn, forOn};
 
 mod whole;
 
 use leaves::Parsed;
 use leaves::State;
+use simple::Before;
 use token::NodeNumber;
 use token::TokenNumber;
 pub use whole::program;
@@ -148,21 +149,28 @@ fn inside(src: &[u8], toks: &[u32], tree: &mut [u32], left: u32, s: State) -> Pa
     ensures { λ r. ⌜ Parts (now (src .entry)) (now (toks .entry)) left inner [] a-list s (now (tree .entry)) r (now (tree .exit)) ⌝ }
 {
     let at = s.at;
-    let line = lookahead::skip_newlines(src, toks, at);
-    let on = State {
-        at: line,
-        nodes: s.nodes,
-        opened: s.opened,
-        used: s.used,
-    };
-    if line.0 != at.0 {
+    if begins_lines(lookahead::symbol_at(src, toks, at)) {
+        let line = lookahead::skip_newlines(src, toks, at);
+        let on = State {
+            at: line,
+            nodes: s.nodes,
+            opened: s.opened,
+            used: s.used,
+        };
         lines(src, toks, tree, left, on)
     } else {
-        if lookahead::begins_line(lookahead::symbol_at(src, toks, at)) {
-            lines(src, toks, tree, left, on)
-        } else {
-            Parsed::Node(NodeNumber(ast::NONE_NODE), s)
-        }
+        Parsed::Node(NodeNumber(ast::NONE_NODE), s)
+    }
+}
+
+// Whether the symbol can begin Lines, or a Newline before them.
+fn begins_lines(symbol: u32) -> bool
+    ensures { λ r. ⌜ r ≡ mem symbol (Newline ∷ firstLine) ⌝ }
+{
+    if lookahead::is_symbol(symbol, token::NEWLINE) {
+        true
+    } else {
+        lookahead::begins_line(symbol)
     }
 }
 
@@ -173,48 +181,11 @@ fn lines(src: &[u8], toks: &[u32], tree: &mut [u32], left: u32, s: State) -> Par
 {
     let at = s.at;
     if lookahead::begins_line(lookahead::symbol_at(src, toks, at)) {
-        let head = rule_line(src, toks, tree, left, s);
-        match head {
-            Parsed::Node(n, after) => {
-                let k = after.nodes - 1;
-                let from = after.at;
-                let line = lookahead::skip_newlines(src, toks, from);
-                let on = State {
-                    at: line,
-                    nodes: after.nodes,
-                    opened: after.opened,
-                    used: after.used,
-                };
-                more(src, toks, tree, left, n, NodeNumber(k), on)
-            }
-            Parsed::Refused(code, after) => Parsed::Refused(code, after),
-        }
-    } else {
-        Parsed::Refused(14, s)
-    }
-}
-
-// The Lines after the first: `first` is the first node of all, `newest` the last so far.
-fn more(
-    src: &[u8],
-    toks: &[u32],
-    tree: &mut [u32],
-    left: u32,
-    first: NodeNumber,
-    newest: NodeNumber,
-    s: State,
-) -> Parsed
-    requires { ⌜ Ready (now src) (now toks) (now tree) s 1 ⌝ }
-    requires { ⌜ newest .0 < s .nodes ⌝ }
-    ensures { λ r. ⌜ Parts (now (src .entry)) (now (toks .entry)) left linesRest (growing (first .0) (newest .0) ∷ []) a-list s (now (tree .entry)) r (now (tree .exit)) ⌝ }
-{
-    let mut last = newest;
-    let mut st = s;
-    loop {
-        let at = st.at;
-        if lookahead::begins_line(lookahead::symbol_at(src, toks, at)) {
-            let next = rule_line(src, toks, tree, left, st);
-            match next {
+        let mut before = Before::Nothing;
+        let mut st = s;
+        loop {
+            let inner = rule_line(src, toks, tree, left, st);
+            match inner {
                 Parsed::Node(n, after) => {
                     let k = after.nodes - 1;
                     let from = after.at;
@@ -225,15 +196,19 @@ fn more(
                         opened: after.opened,
                         used: after.used,
                     };
-                    leaves::link(tree, last, n, on);
-                    last = NodeNumber(k);
-                    st = on;
+                    let first = simple::joined(tree, before, n, on);
+                    if lookahead::begins_line(lookahead::symbol_at(src, toks, line)) {
+                        before = Before::List(first, NodeNumber(k));
+                        st = on;
+                    } else {
+                        return Parsed::Node(first, on);
+                    }
                 }
                 Parsed::Refused(code, after) => return Parsed::Refused(code, after),
             }
-        } else {
-            return Parsed::Node(first, st);
         }
+    } else {
+        Parsed::Refused(14, s)
     }
 }
 

@@ -12,13 +12,13 @@ use Rattle.stmt.proofs.Blocks.{modest-inner}
 use borrow.Author.Needs.{needs}
 use native.Mathlib.Omega.{arith}
 use Prim.Native.Nat.{ℕ}
-use Rattle.stmt.proofs.+again+block+branch+cond+each+elif+elifs+further+given+guarded+indented+inside+lines+member+method+methods+more+named+other+range+rule_block+rule_class+rule_line+suite.Lts-indented as lts
+use Rattle.stmt.proofs.+again+block+branch+cond+each+elif+elifs+further+given+guarded+indented+inside+lines+member+method+methods+named+other+range+rule_block+rule_class+rule_line+suite.Lts-indented as lts
 use Rattle.stmt.proofs.indented.Reads as reads
 use Rattle.lookahead.proofs.symbol_at.Reads as symbol-at-reads
 use Rattle.lookahead.proofs.is_symbol.Reads as is-symbol-reads
 use Rattle.stmt.proofs.inside.Reads as inside
 use Rattle.stmt.proofs.dedent.Reads as dedent-reads
-use Rattle.stmt.proofs.+again+block+branch+cond+each+elif+elifs+further+given+guarded+indented+inside+lines+member+method+methods+more+named+other+range+rule_block+rule_class+rule_line+suite.Proof.Start.{indented-at, inside-below}
+use Rattle.stmt.proofs.+again+block+branch+cond+each+elif+elifs+further+given+guarded+indented+inside+lines+member+method+methods+named+other+range+rule_block+rule_class+rule_line+suite.Proof.Start.{indented-at, inside-below}
 
 abbrev calls : ℕ → lts.Claims
 calls t = (symbol-at-reads.Asked, symbol-at-reads.Learnt, is-symbol-reads.Asked, is-symbol-reads.Learnt, inside-below t, inside.Post, dedent-reads.Asked, dedent-reads.Learnt)

@@ -15,7 +15,7 @@ use Rattle.stmt.proofs.Blocks.{one-through}
 use borrow.Author.Needs.{needs}
 use native.Mathlib.Omega.{arith}
 use Prim.Native.Nat.{ℕ}
-use Rattle.stmt.proofs.+again+block+branch+cond+each+elif+elifs+further+given+guarded+indented+inside+lines+member+method+methods+more+named+other+range+rule_block+rule_class+rule_line+suite.Lts-rule_line as lts
+use Rattle.stmt.proofs.+again+block+branch+cond+each+elif+elifs+further+given+guarded+indented+inside+lines+member+method+methods+named+other+range+rule_block+rule_class+rule_line+suite.Lts-rule_line as lts
 use Rattle.stmt.proofs.rule_line.Reads as reads
 use Rattle.lookahead.proofs.symbol_at.Reads as symbol-at-reads
 use Rattle.stmt.proofs.rule_class.Reads as rule-class
@@ -24,7 +24,7 @@ use Rattle.stmt.proofs.cond.Reads as cond
 use Rattle.stmt.proofs.again.Reads as again
 use Rattle.stmt.proofs.each.Reads as each
 use Rattle.simple.proofs.simples.Reads as simples-reads
-use Rattle.stmt.proofs.+again+block+branch+cond+each+elif+elifs+further+given+guarded+indented+inside+lines+member+method+methods+more+named+other+range+rule_block+rule_class+rule_line+suite.Proof.Start.{rule-line-at, rule-class-below, named-below, cond-below, again-below, each-below}
+use Rattle.stmt.proofs.+again+block+branch+cond+each+elif+elifs+further+given+guarded+indented+inside+lines+member+method+methods+named+other+range+rule_block+rule_class+rule_line+suite.Proof.Start.{rule-line-at, rule-class-below, named-below, cond-below, again-below, each-below}
 
 abbrev calls : ℕ → lts.Claims
 calls t = (symbol-at-reads.Asked, symbol-at-reads.Learnt, rule-class-below t, rule-class.Post, named-below t, named.Post, cond-below t, cond.Post, again-below t, again.Post, each-below t, each.Post, simples-reads.Asked, simples-reads.Learnt)

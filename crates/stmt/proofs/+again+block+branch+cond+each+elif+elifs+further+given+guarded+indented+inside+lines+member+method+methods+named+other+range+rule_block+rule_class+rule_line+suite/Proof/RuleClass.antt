@@ -14,12 +14,12 @@ use Rattle.simple.proofs.Newest.{newest-refused}
 use borrow.Author.Needs.{needs}
 use native.Mathlib.Omega.{arith}
 use Prim.Native.Nat.{ℕ}
-use Rattle.stmt.proofs.+again+block+branch+cond+each+elif+elifs+further+given+guarded+indented+inside+lines+member+method+methods+more+named+other+range+rule_block+rule_class+rule_line+suite.Lts-rule_class as lts
+use Rattle.stmt.proofs.+again+block+branch+cond+each+elif+elifs+further+given+guarded+indented+inside+lines+member+method+methods+named+other+range+rule_block+rule_class+rule_line+suite.Lts-rule_class as lts
 use Rattle.stmt.proofs.rule_class.Reads as reads
 use Rattle.lookahead.proofs.symbol_at.Reads as symbol-at-reads
 use Rattle.lookahead.proofs.is_name.Reads as is-name-reads
 use Rattle.stmt.proofs.suite.Reads as suite
-use Rattle.stmt.proofs.+again+block+branch+cond+each+elif+elifs+further+given+guarded+indented+inside+lines+member+method+methods+more+named+other+range+rule_block+rule_class+rule_line+suite.Proof.Start.{rule-class-at, suite-below}
+use Rattle.stmt.proofs.+again+block+branch+cond+each+elif+elifs+further+given+guarded+indented+inside+lines+member+method+methods+named+other+range+rule_block+rule_class+rule_line+suite.Proof.Start.{rule-class-at, suite-below}
 
 abbrev calls : ℕ → lts.Claims
 calls t = (symbol-at-reads.Asked, symbol-at-reads.Learnt, is-name-reads.Asked, is-name-reads.Learnt, suite-below t, suite.Post)

@@ -16,14 +16,14 @@ use Rattle.expr.proofs.Low.{modest-parameters}
 use borrow.Author.Needs.{needs}
 use native.Mathlib.Omega.{arith}
 use Prim.Native.Nat.{ℕ}
-use Rattle.stmt.proofs.+again+block+branch+cond+each+elif+elifs+further+given+guarded+indented+inside+lines+member+method+methods+more+named+other+range+rule_block+rule_class+rule_line+suite.Lts-given as lts
+use Rattle.stmt.proofs.+again+block+branch+cond+each+elif+elifs+further+given+guarded+indented+inside+lines+member+method+methods+named+other+range+rule_block+rule_class+rule_line+suite.Lts-given as lts
 use Rattle.stmt.proofs.given.Reads as reads
 use Rattle.expr.proofs.names.Reads as names-reads
 use Rattle.lookahead.proofs.symbol_at.Reads as symbol-at-reads
 use Rattle.lookahead.proofs.is_symbol.Reads as is-symbol-reads
 use Rattle.stmt.proofs.block.Reads as block
 use Rattle.stmt_leaves.proofs.put_def.Reads as put-def-reads
-use Rattle.stmt.proofs.+again+block+branch+cond+each+elif+elifs+further+given+guarded+indented+inside+lines+member+method+methods+more+named+other+range+rule_block+rule_class+rule_line+suite.Proof.Start.{given-at, block-below}
+use Rattle.stmt.proofs.+again+block+branch+cond+each+elif+elifs+further+given+guarded+indented+inside+lines+member+method+methods+named+other+range+rule_block+rule_class+rule_line+suite.Proof.Start.{given-at, block-below}
 
 abbrev calls : ℕ → lts.Claims
 calls t = (names-reads.Asked, names-reads.Learnt, symbol-at-reads.Asked, symbol-at-reads.Learnt, is-symbol-reads.Asked, is-symbol-reads.Learnt, block-below t, block.Post, put-def-reads.Asked, put-def-reads.Learnt)

@@ -37,8 +37,6 @@ use Rattle.stmt.proofs.method.Reads as method
 use Rattle.stmt.proofs.method.Kinds as method-kinds
 use Rattle.stmt.proofs.methods.Reads as methods
 use Rattle.stmt.proofs.methods.Kinds as methods-kinds
-use Rattle.stmt.proofs.more.Reads as more
-use Rattle.stmt.proofs.more.Kinds as more-kinds
 use Rattle.stmt.proofs.named.Reads as named
 use Rattle.stmt.proofs.named.Kinds as named-kinds
 use Rattle.stmt.proofs.other.Reads as other
@@ -101,9 +99,6 @@ abbrev pub μ-method : Measures 3 method-kinds.ps ℕ
 
 abbrev pub μ-methods : Measures 3 methods-kinds.ps ℕ
 μ-methods κs a = 8 * (length (a .1 .0 .now) - 3 * a .1 .1 .1 .1 .1 .1 .0 .at .0) + 0
-
-abbrev pub μ-more : Measures 3 more-kinds.ps ℕ
-μ-more κs a = 8 * (length (a .1 .0 .now) - 3 * a .1 .1 .1 .1 .1 .1 .0 .at .0) + 2
 
 abbrev pub μ-named : Measures 3 named-kinds.ps ℕ
 μ-named κs a = 8 * (length (a .1 .0 .now) - 3 * a .1 .1 .1 .1 .1 .1 .0 .at .0) + 0
@@ -221,12 +216,6 @@ methods-at t = and 3 methods-kinds.ps (is 3 methods-kinds.ps μ-methods t) metho
 
 abbrev pub methods-below : ℕ → In 3 methods-kinds.ps
 methods-below t = and 3 methods-kinds.ps (falls 3 methods-kinds.ps _<_ μ-methods t) methods.Pre
-
-abbrev pub more-at : ℕ → In 3 more-kinds.ps
-more-at t = and 3 more-kinds.ps (is 3 more-kinds.ps μ-more t) more.Pre
-
-abbrev pub more-below : ℕ → In 3 more-kinds.ps
-more-below t = and 3 more-kinds.ps (falls 3 more-kinds.ps _<_ μ-more t) more.Pre
 
 abbrev pub named-at : ℕ → In 3 named-kinds.ps
 named-at t = and 3 named-kinds.ps (is 3 named-kinds.ps μ-named t) named.Pre

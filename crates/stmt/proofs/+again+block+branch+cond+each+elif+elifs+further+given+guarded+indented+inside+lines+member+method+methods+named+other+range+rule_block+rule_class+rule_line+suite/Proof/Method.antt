@@ -11,12 +11,12 @@ use Rattle.joint.proofs.Loops.{ready-of}
 use borrow.Author.Needs.{needs}
 use native.Mathlib.Omega.{arith}
 use Prim.Native.Nat.{ℕ}
-use Rattle.stmt.proofs.+again+block+branch+cond+each+elif+elifs+further+given+guarded+indented+inside+lines+member+method+methods+more+named+other+range+rule_block+rule_class+rule_line+suite.Lts-method as lts
+use Rattle.stmt.proofs.+again+block+branch+cond+each+elif+elifs+further+given+guarded+indented+inside+lines+member+method+methods+named+other+range+rule_block+rule_class+rule_line+suite.Lts-method as lts
 use Rattle.stmt.proofs.method.Reads as reads
 use Rattle.lookahead.proofs.symbol_at.Reads as symbol-at-reads
 use Rattle.lookahead.proofs.is_symbol.Reads as is-symbol-reads
 use Rattle.stmt.proofs.named.Reads as named
-use Rattle.stmt.proofs.+again+block+branch+cond+each+elif+elifs+further+given+guarded+indented+inside+lines+member+method+methods+more+named+other+range+rule_block+rule_class+rule_line+suite.Proof.Start.{method-at, named-below}
+use Rattle.stmt.proofs.+again+block+branch+cond+each+elif+elifs+further+given+guarded+indented+inside+lines+member+method+methods+named+other+range+rule_block+rule_class+rule_line+suite.Proof.Start.{method-at, named-below}
 
 abbrev calls : ℕ → lts.Claims
 calls t = (symbol-at-reads.Asked, symbol-at-reads.Learnt, is-symbol-reads.Asked, is-symbol-reads.Learnt, named-below t, named.Post)
