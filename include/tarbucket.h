@@ -20,8 +20,8 @@ extern "C" {
 /* The longest source that is read, in bytes. */
 #define TARBUCKET_LONGEST 65536u
 
-/* A call needs at most 96 KiB of stack, the caller's own frames and signal handlers aside. Measured by stack/run.sh, not proved. */
-#define TARBUCKET_STACK_BYTES 98304u
+/* A call needs at most 64 KiB of stack, the caller's own frames and signal handlers aside. Measured by stack/run.sh, not proved. */
+#define TARBUCKET_STACK_BYTES 65536u
 
 /* No node, where a field holds a node number. */
 #define TARBUCKET_NONE 4294967295u

@@ -92,9 +92,9 @@ rm -rf "$out/copy"
 mkdir -p "$out/copy/bindings/rust"
 cp -r include stack "$out/copy"
 cp -r bindings/rust/src "$out/copy/bindings/rust"
-sed 's/^pub const STACK: usize = .*/pub const STACK: usize = 65536;/' bindings/rust/src/lib.rs > "$out/copy/bindings/rust/src/lib.rs"
+sed 's/^pub const STACK: usize = .*/pub const STACK: usize = 32768;/' bindings/rust/src/lib.rs > "$out/copy/bindings/rust/src/lib.rs"
 STATICLIB=$PWD/target/staticlib cargo build --offline --release --quiet --manifest-path "$out/copy/stack/Cargo.toml" --target-dir "$out/target"
-found "another promise in Rust" "the Rust crate promises 65,536 bytes"
+found "another promise in Rust" "the Rust crate promises 32,768 bytes"
 
 # A row's deepest call is its seventh field between bars.
 library 8 0 2

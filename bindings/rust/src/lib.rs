@@ -34,7 +34,7 @@ pub use tree::{BadTree, List, Node, Tree, Walk};
 pub const LONGEST: usize = 65536;
 
 /// A call needs at most so many bytes of stack, the caller's own frames and signal handlers aside. Measured by stack/run.sh, not proved.
-pub const STACK: usize = 98304;
+pub const STACK: usize = 65536;
 
 /// No node, where a word holds a node number.
 pub const NONE: u32 = u32::MAX;
