@@ -1,4 +1,4 @@
--- Statements that are linked as they are read: what the function `joined` tells.
+-- Statements that are linked as they are read: what the function `joined` tells. Only contracts cite this.
 -- Assumes nothing.
 use Prim.Native.Nat.{ℕ, _<_}
 use mathlib.Core.Path.{_≡_}

@@ -1,4 +1,5 @@
 -- What a t is to its statement: the part of Simple that is left where it is read, and the values at hand there.
+-- Only contracts cite this: each part is one of Simple (specs/Rules.antt of pyhyeon, "return t; t = t; t").
 -- Assumes nothing.
 use Prim.Native.Nat.{ℕ, _<_}
 use mathlib.Core.Path.{_≡_}
