@@ -63,12 +63,11 @@ pub fn literal_of(src: &[u8], code: u32, start: usize, end: usize, used: u32) ->
     requires { ⌜ (code ≡ String → start + 2 ≤ end) ⌝ }
     ensures { λ r. ⌜ r ≡ literalIn (valueOf code (part (now (src .entry)) start end) used) ⌝ }
 {
-    let bytes = &src[start..end];
     match code {
-        token::BOOL => Literal::Bool(source::byte(bytes, 0) == b'T'),
-        token::INT => value_in(literal::lex_integer(bytes)),
-        token::FLOAT => value_in(literal::lex_float(bytes)),
-        token::STRING => literal::lex_string(bytes, used),
+        token::BOOL => Literal::Bool(source::byte(&src[start..end], 0) == b'T'),
+        token::INT => value_in(literal::lex_integer(&src[start..end])),
+        token::FLOAT => value_in(literal::lex_float(&src[start..end])),
+        token::STRING => literal::lex_string(&src[start..end], used),
         _ => Literal::None,
     }
 }

@@ -13,17 +13,26 @@ use Rattle.lexer.proofs.Values.{length-part, value-bool, value-int, val
 use Rattle.lexer.proofs.value.literal_of.Statement.{statement}
 use Rattle.lexer.proofs.value.literal_of.Tie as tie
 
-sub-bytes : tie.Need-sub-bytes
-sub-bytes c = search needs
+sub-byte : tie.Need-sub-byte
+sub-byte c = search needs
 
-part-bytes-start : tie.Need-part-bytes-start
-part-bytes-start c = search needs
+part-byte-start : tie.Need-part-byte-start
+part-byte-start c = search needs
 
-part-bytes-end : tie.Need-part-bytes-end
-part-bytes-end c = search needs
+part-byte-end : tie.Need-part-byte-end
+part-byte-end c = search needs
 
 byte-requires : tie.Need-byte-requires
 byte-requires c κs = search needs
+
+sub-lex-integer : tie.Need-sub-lex-integer
+sub-lex-integer c = search needs
+
+part-lex-integer-start : tie.Need-part-lex-integer-start
+part-lex-integer-start c = search needs
+
+part-lex-integer-end : tie.Need-part-lex-integer-end
+part-lex-integer-end c = search needs
 
 lex-integer-requires : tie.Need-lex-integer-requires
 lex-integer-requires c κs = search needs
@@ -31,57 +40,90 @@ lex-integer-requires c κs = search needs
 value-in-requires : tie.Need-value-in-requires
 value-in-requires c κs = search needs
 
+sub-lex-float : tie.Need-sub-lex-float
+sub-lex-float c = search needs
+
+part-lex-float-start : tie.Need-part-lex-float-start
+part-lex-float-start c = search needs
+
+part-lex-float-end : tie.Need-part-lex-float-end
+part-lex-float-end c = search needs
+
 lex-float-requires : tie.Need-lex-float-requires
 lex-float-requires c κs = search needs
 
 value-in-requires-2 : tie.Need-value-in-requires-2
 value-in-requires-2 c κs = search needs
 
+sub-lex-string : tie.Need-sub-lex-string
+sub-lex-string c = search needs
+
+part-lex-string-start : tie.Need-part-lex-string-start
+part-lex-string-start c = search needs
+
+part-lex-string-end : tie.Need-part-lex-string-end
+part-lex-string-end c = search needs
+
 lex-string-requires : tie.Need-lex-string-requires
 lex-string-requires c κs =
-    let a = c .before .before .before .args in
-    let q = c .before .before .before .pre .1 (c .match .keys4) in
-    let n = length-part (now (a .src)) (a .start) (a .end) (c .before .before .before .pre .0 .1) in
-    let p = c .before .before .before .pre .0 in
+    let at-match = c .before in
+    let at-start = at-match .before .before in
+    let a = at-start .args in
+    let p = at-start .pre .0 in
+    let q = at-start .pre .1 (at-match .match .keys4) in
+    let n = length-part (now (a .src)) (a .start) (a .end) (p .1) in
     omega arith
 
 returns : tie.Need-returns
 returns c =
-    let a = c .before .before .before .before .args in
-    ap (λ (b : ℕ). L.Bool (eqb b 84)) (c .byte .ensures) ∙ sym (ap literalIn (value-bool (a .code) (part (now (a .src)) (a .start) (a .end)) (a .used) (c .before .match .keys1)))
+    let at-match = c .before .before in
+    let a = at-match .before .before .args in
+    ap (λ (b : ℕ). L.Bool (eqb b 84)) (c .byte .ensures) ∙ sym (ap literalIn (value-bool (a .code) (part (now (a .src)) (a .start) (a .end)) (a .used) (at-match .match .keys1)))
 
 returns-2 : tie.Need-returns-2
 returns-2 c =
-    let a = c .before .before .before .before .before .args in
-    c .value-in .ensures ∙ ap literalIn (c .before .lex-integer .ensures ∙ sym (value-int (a .code) (part (now (a .src)) (a .start) (a .end)) (a .used) (c .before .before .match .keys2)))
+    let at-match = c .before .before .before in
+    let a = at-match .before .before .args in
+    c .value-in .ensures ∙ ap literalIn (c .before .lex-integer .ensures ∙ sym (value-int (a .code) (part (now (a .src)) (a .start) (a .end)) (a .used) (at-match .match .keys2)))
 
 returns-3 : tie.Need-returns-3
 returns-3 c =
-    let a = c .before .before .before .before .before .args in
-    c .value-in2 .ensures ∙ ap literalIn (c .before .lex-float .ensures ∙ sym (value-float (a .code) (part (now (a .src)) (a .start) (a .end)) (a .used) (c .before .before .match .keys3)))
+    let at-match = c .before .before .before in
+    let a = at-match .before .before .args in
+    c .value-in2 .ensures ∙ ap literalIn (c .before .lex-float .ensures ∙ sym (value-float (a .code) (part (now (a .src)) (a .start) (a .end)) (a .used) (at-match .match .keys3)))
 
 returns-4 : tie.Need-returns-4
 returns-4 c =
-    let a = c .before .before .before .before .args in
-    c .lex-string .ensures ∙ sym (ap literalIn (value-string (a .code) (part (now (a .src)) (a .start) (a .end)) (a .used) (c .before .match .keys4)))
+    let at-match = c .before .before in
+    let a = at-match .before .before .args in
+    c .lex-string .ensures ∙ sym (ap literalIn (value-string (a .code) (part (now (a .src)) (a .start) (a .end)) (a .used) (at-match .match .keys4)))
 
 returns-5 : tie.Need-returns-5
 returns-5 c =
-    let a = c .before .before .before .args in
+    let a = c .before .before .args in
     sym (ap literalIn (value-none (a .code) (part (now (a .src)) (a .start) (a .end)) (a .used) (c .match .rest .0 .0 .1) (c .match .rest .0 .1) (c .match .rest .1) (c .match .rest .0 .0 .0 .1)))
 
 pub literal-of-spec : {M : Type 1} → statement M
 literal-of-spec =
     tie.close
     (tie.spec
-    sub-bytes
-    part-bytes-start
-    part-bytes-end
+    sub-byte
+    part-byte-start
+    part-byte-end
     byte-requires
+    sub-lex-integer
+    part-lex-integer-start
+    part-lex-integer-end
     lex-integer-requires
     value-in-requires
+    sub-lex-float
+    part-lex-float-start
+    part-lex-float-end
     lex-float-requires
     value-in-requires-2
+    sub-lex-string
+    part-lex-string-start
+    part-lex-string-end
     lex-string-requires
     returns
     returns-2
