@@ -394,26 +394,28 @@ fn head(src: &[u8], toks: &[u32], tree: &mut [u32], left: u32, s: State) -> Pars
     ensures { λ r. ⌜ Parts (now (src .entry)) (now (toks .entry)) left primary [] a-node s (now (tree .entry)) r (now (tree .exit)) ⌝ }
 {
     let at = s.at;
-    let t = at.0 + 1;
-    let on = State {
-        at: TokenNumber(t),
-        nodes: s.nodes,
-        opened: s.opened,
-        used: s.used,
-    };
     match lookahead::symbol_at(src, toks, at) {
-        token::LBRACKET => shown(src, toks, tree, left, at, token::RBRACKET, ast::LIST, on),
-        lookahead::TEE => tee(src, toks, tree, left, at, on),
-        token::LBRACE => braces(src, toks, tree, left, at, on),
-        token::LPAREN => round(src, toks, tree, left, at, on),
+        token::LBRACKET => shown(
+            src,
+            toks,
+            tree,
+            left,
+            at,
+            token::RBRACKET,
+            ast::LIST,
+            leaves::past(s),
+        ),
+        lookahead::TEE => tee(src, toks, tree, left, at, leaves::past(s)),
+        token::LBRACE => braces(src, toks, tree, left, at, leaves::past(s)),
+        token::LPAREN => round(src, toks, tree, left, at, leaves::past(s)),
         token::IDENTIFIER => {
-            let made = expr_leaves::put_named(toks, tree, ast::VARIABLE, on);
+            let made = expr_leaves::put_named(toks, tree, ast::VARIABLE, leaves::past(s));
             let n = made.0;
             let after = made.1;
             Parsed::Node(n, after)
         }
         _ => {
-            let made = expr_leaves::put_literal(src, toks, tree, on);
+            let made = expr_leaves::put_literal(src, toks, tree, leaves::past(s));
             let n = made.0;
             let after = made.1;
             Parsed::Node(n, after)

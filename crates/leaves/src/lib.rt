@@ -1,5 +1,9 @@
 // What every leaf of the tree reader stands on (src/parser/mod.rs): its state and answers, a node put behind the others, a link, a wider span.
 // Their contracts speak of the machine of the grammar's actions: specs/Contract.antt.
+ghost use mathlib.Core.Path.{_≡_};
+ghost use Prim.Native.Nat.{_+_, _<_, _^_};
+ghost use Rattle.leaves.specs.Contract.{past};
+
 mod list;
 mod write;
 
@@ -17,6 +21,20 @@ pub struct State {
     pub nodes: u32,
     pub opened: u32,
     pub used: u32,
+}
+
+// One token further.
+pub fn past(s: State) -> State
+    requires { ⌜ s .at .0 + 1 < 2 ^ 32 ⌝ }
+    ensures { λ r. ⌜ r ≡ past s ⌝ }
+{
+    let t = s.at.0 + 1;
+    State {
+        at: TokenNumber(t),
+        nodes: s.nodes,
+        opened: s.opened,
+        used: s.used,
+    }
 }
 
 // The answer of a rule: the node that it read, or the number of a refusal, which stands at the state's token. The state is handed on in both.
