@@ -28,19 +28,19 @@ use Rattle.levels.specs.declared.Level.the-variants as level
 use Rattle.levels.specs.declared.Chain.{Chain}
 use Rattle.levels.specs.declared.Chain.the-variants as links
 use Rattle.levels.specs.Levels.{link, Hung, Chains, Compared}
-use Rattle.levels.proofs.Operands.{Joint, Goes}
+use Rattle.levels.proofs.Operands.{Joint, Goes, goes-alone}
 
 -- a further comparison; all of these; and the first one with these, behind an operand
-abbrev pub further : Part Action Rule
+abbrev further : Part Action Rule
 further = tok comparisons ⨾ act mark ⨾ call S ⨾ act compare-more
 
-abbrev pub chained : Part Action Rule
+abbrev chained : Part Action Rule
 chained = many further ⨾ act compared
 
-abbrev pub compares : Part Action Rule
+abbrev compares : Part Action Rule
 compares = tok comparisons ⨾ act mark ⨾ call S ⨾ act compare ⨾ chained ∕ skip
 
-pub low-further : T (low pyhyeon 100 100 (many further))
+low-further : T (low pyhyeon 100 100 (many further))
 unfolding low takes least rank
 low-further = tt
 
@@ -72,22 +72,22 @@ hung-later b h k w = record {
 }
 
 -- the values at hand before the operand, and what is left behind its call; what is left once it is compared, and the value then at hand
-abbrev pub hand : Chain → List Value
+abbrev hand : Chain → List Value
 hand links.Nothing = []
 hand (links.First op l) = token (op .0) ∷ node (l .0) ∷ []
 hand (links.Further op l x) = token (op .0) ∷ chain (l .0) (x .0) ∷ []
 
-abbrev pub rest : Chain → Part Action Rule
+abbrev rest : Chain → Part Action Rule
 rest links.Nothing = compares
 rest (links.First op l) = act compare ⨾ chained
 rest (links.Further op l x) = act compare-more ⨾ chained
 
-abbrev pub behind : Chain → Part Action Rule
+abbrev behind : Chain → Part Action Rule
 behind links.Nothing = compares
 behind (links.First op l) = chained
 behind (links.Further op l x) = chained
 
-abbrev pub value : Chain → ℕ → ℕ → Value
+abbrev value : Chain → ℕ → ℕ → Value
 value links.Nothing m n = node m
 value (links.First op l) m n = chain m n
 value (links.Further op l x) m n = chain m n
@@ -121,13 +121,10 @@ comparing = record {
   later = hung-later;
   hung = hung-next;
   starts = λ vs c. c;
+  alone = λ c. c;
   ends = λ b m n h f u. compares-end b m n h f u;
   turns = λ b m n h f c. compares-turn b m n h f c;
 }
-
--- the operand alone, and one that is compared
-goes-alone : {src toks : List ℕ} {n : NodeNumber} {s : State} {tr : List ℕ} → Goes comparing src toks links.Nothing n s tr (record { 0 = n; 1 = s }) tr
-goes-alone = record { at = refl; opened = refl; used = refl; nodes = (omega arith, omega arith); there = λ h. h; same = λ c. c }
 
 goes-first : {src toks : List ℕ} {op : TokenNumber} {l n : NodeNumber} {s : State} {tr : List ℕ} {r : Added} {tr′ : List ℕ} → Chains src toks compare (node (n .0) ∷ token (op .0) ∷ node (l .0) ∷ []) (n .0) s tr r (added s) tr′ → Goes comparing src toks (links.First op l) n s tr r tr′
 goes-first w = record {
@@ -150,6 +147,6 @@ goes-further w = record {
 }
 
 pub goes : {src toks : List ℕ} (b : Chain) {n : NodeNumber} {s : State} {tr : List ℕ} {r : Added} {tr′ : List ℕ} → Compared src toks b n s tr r tr′ → Goes comparing src toks b n s tr r tr′
-goes links.Nothing j = let e = j .alone refl in rw (e .0, e .1) goes-alone
+goes links.Nothing j = let e = j .alone refl in rw (e .0, e .1) (goes-alone comparing)
 goes (links.First op l) j = goes-first (j .first op l refl)
 goes (links.Further op l x) j = goes-further (j .further op l x refl)

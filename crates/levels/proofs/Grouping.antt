@@ -1,7 +1,6 @@
 -- The levels whose operators group left: O, A, S and P.
 -- Assumes nothing.
 use mathlib.Core.Path.{_≡_, refl}
-use mathlib.Core.Bool.{false}
 use mathlib.Core.List.{List, [], _∷_}
 use Prim.Native.Nat.{ℕ, _<_}
 use native.Mathlib.Omega.{arith}
@@ -14,12 +13,11 @@ use Rattle.token.specs.declared.NodeNumber.{NodeNumber}
 use Rattle.pyhyeon.specs.Machine.{Value, token, node}
 use Rattle.pyhyeon.specs.Action.{Action, mark, binary}
 use Rattle.pyhyeon.specs.Rules.{Rule, level}
-use Rattle.pyhyeon.specs.Tables.{joined, first, least, rank, opens, pyhyeon}
+use Rattle.pyhyeon.specs.Tables.{first, least, rank, pyhyeon}
 use Rattle.leaves.specs.declared.State.{State}
 use Rattle.leaves.specs.declared.Added.{Added}
-use Rattle.leaves.specs.declared.Parsed.{Parsed}
-use Rattle.leaves.specs.Contract.{raised, a-node, Rules, Comes, Writes}
-use Rattle.joint.proofs.Chain.{turn-on, turn-end, open-plain}
+use Rattle.leaves.specs.Contract.{Writes}
+use Rattle.joint.proofs.Chain.{turn-on, turn-end}
 use Rattle.joint.proofs.Ends.{tok-mark, wrote-then}
 use Rattle.levels.specs.declared.Level.{Level}
 use Rattle.levels.specs.declared.Level.the-variants as level
@@ -27,10 +25,10 @@ use Rattle.levels.specs.declared.Before.{Before}
 use Rattle.levels.specs.declared.Before.the-variants as before
 use Rattle.levels.specs.Levels.{operators, Held, Joined}
 use Rattle.levels.proofs.Operators.{operand}
-use Rattle.levels.proofs.Operands.{Joint, Goes}
+use Rattle.levels.proofs.Operands.{Joint, Goes, goes-alone}
 
 -- an operator with its right operand
-abbrev pub term : Rule → List ℕ → Part Action Rule
+abbrev term : Rule → List ℕ → Part Action Rule
 term r ops = tok ops ⨾ act mark ⨾ call r ⨾ act binary
 
 -- It begins with an operator. No rule has such a part for comparisons, of which the laws hold all the same.
@@ -50,10 +48,6 @@ low-level level.Comparison = tt
 low-level level.Sum = tt
 low-level level.Product = tt
 
--- a rule whose body is an operand of the level and then its operators
-pub grouped-is : {src toks : List ℕ} {room : ℕ} {s : State} {tr : List ℕ} {a : Parsed} {t : List ℕ} {r : Rule} (l : Level) → opens r ≡ false → joined r ≡ level (operand l) (operators l) → ((vs : List Value) → Comes src toks room (level (operand l) (operators l)) a-node vs vs (raised s) tr a t) → Rules src toks room r a-node s tr a t
-grouped-is l o b c = open-plain o (λ vs. rw b (c vs))
-
 -- nothing stands before the first operand; an operator before any other
 pub held-none : (s : State) → Held before.Nothing s
 held-none s = record { op = λ o l e. let z : _≡_ {A = ℕ} 0 1 = cc in absurd (omega arith); node = λ o l e. let z : _≡_ {A = ℕ} 0 1 = cc in absurd (omega arith) }
@@ -65,11 +59,11 @@ held-one {s} {o} {n} h k = record {
 }
 
 -- the values at hand when the operand is read, and what is done with it before q
-abbrev pub hand : Before → List Value
+abbrev hand : Before → List Value
 hand before.Nothing = []
 hand (before.Operator op l) = token (op .0) ∷ node (l .0) ∷ []
 
-abbrev pub joining : Before → Part Action Rule → Part Action Rule
+abbrev joining : Before → Part Action Rule → Part Action Rule
 joining before.Nothing q = q
 joining (before.Operator op l) q = act binary ⨾ q
 
@@ -86,14 +80,12 @@ grouping l = record {
   next = λ b op m n. before.Operator op m;
   begun = held-none;
   starts = λ vs c. c;
+  alone = λ c. c;
   later = λ b h k w. record { op = λ o l e. omega (arith, w .op o l e, h); node = λ o l e. omega (arith, w .node o l e, k) };
   hung = λ b h k p. held-one h k;
   ends = λ b m n h f u. turn-end (low-level l) h (rw (begins-level l) f) u;
   turns = λ b m n h f c. turn-on (low-level l) h (rw (begins-level l) f) (tok-mark h f c);
 }
-
-goes-alone : (l : Level) {src toks : List ℕ} {n : NodeNumber} {s : State} {tr : List ℕ} → Goes (grouping l) src toks before.Nothing n s tr (record { 0 = n; 1 = s }) tr
-goes-alone l = record { at = refl; opened = refl; used = refl; nodes = (omega arith, omega arith); there = λ h. h; same = λ c. c }
 
 goes-both : (l : Level) {src toks : List ℕ} {op : TokenNumber} {k n : NodeNumber} {s : State} {tr : List ℕ} {r : Added} {tr′ : List ℕ} → Writes src toks binary (node (n .0) ∷ token (op .0) ∷ node (k .0) ∷ []) s tr r tr′ → Goes (grouping l) src toks (before.Operator op k) n s tr r tr′
 goes-both l w = record {
@@ -106,5 +98,5 @@ goes-both l w = record {
 }
 
 pub goes : (l : Level) {src toks : List ℕ} (b : Before) {n : NodeNumber} {s : State} {tr : List ℕ} {r : Added} {tr′ : List ℕ} → Joined src toks b n s tr r tr′ → Goes (grouping l) src toks b n s tr r tr′
-goes l before.Nothing j = let e = j .alone refl in rw (e .0, e .1) (goes-alone l)
+goes l before.Nothing j = let e = j .alone refl in rw (e .0, e .1) (goes-alone (grouping l))
 goes l (before.Operator op k) j = goes-both l (j .both op k refl)

@@ -1,7 +1,7 @@
 -- `expr::rule_c`, a member of the cycle.
 -- Assumes nothing.
 use Rattle.levels.specs.declared.Chain.{Chain}
-use Rattle.levels.proofs.Operands.{Joint, Reading, reading-starts, reading-stops, reading-spot, reading-next, reading-held, reading-here, reading-ends, reading-misses, reading-less, reading-goes}
+use Rattle.levels.proofs.Operands.{Joint, Reading, Operand, Turn, reading-starts, reading-stops, operand-read, operand-spot, operand-next, operand-held, turn-long, turn-here, turn-ends, turn-misses, turn-less, turn-goes}
 use Rattle.levels.proofs.Comparing.{comparing, goes}
 use Rattle.joint.proofs.Chain.{open-plain}
 use Rattle.joint.proofs.Loops.{ready-of}
@@ -33,15 +33,24 @@ abbrev μ-loop : lts.MeasureT-loop
 μ-loop src toks tree₀ left opened st₀ before₀ tree st before = eofAt toks - st .at .0
 
 module _ (t : ℕ) where
+  -- an operand was read; and joined to what stands before it
+  abbrev operand : lts.After-inner (calls t) (rule-c-at t) reads.Post Inv-loop μ-loop → Operand g
+  operand c =
+      let at-rule-s = c .before .before .before .before in
+      operand-read (at-rule-s .before .before .loop .inv) (at-rule-s .rule-s .ensures) (c .inner .given .1) (at-rule-s .rule-s .kept .1 .1 .0)
+
+  abbrev turn : lts.After-compared (calls t) (rule-c-at t) reads.Post Inv-loop μ-loop → Turn g
+  turn c = record { of = operand (c .before .before .before); made = _; tr₂ = _; goes = goes _ (c .compared .ensures _); length = c .compared .kept .1 .0 }
+
   add-opened : lts.Need-add-opened (calls t) (rule-c-at t) reads.Post Inv-loop μ-loop
   add-opened c = omega arith
 
   loop-holds : lts.Need-loop-holds (calls t) (rule-c-at t) reads.Post Inv-loop μ-loop
-  unfolding first
+  unfolding first rank
   loop-holds c =
       let at-start = c .before .before .before .before .before in
       let r = at-start .pre .1 .0 in
-      reading-starts g (ready-of (r .tokens) (omega arith)) (at-start .pre .1 .1 .seen)
+      reading-starts g (ready-of (r .tokens) (omega arith)) (at-start .pre .1 .1 .seen) (omega arith)
 
   rule-s-requires : lts.Need-rule-s-requires (calls t) (rule-c-at t) reads.Post Inv-loop μ-loop
   unfolding first
@@ -55,32 +64,14 @@ module _ (t : ℕ) where
   enum-known-inner c = search needs
 
   compared-requires : lts.Need-compared-requires (calls t) (rule-c-at t) reads.Post Inv-loop μ-loop
-  unfolding rank
   compared-requires c κs =
-      let at-inner = c .before .before in
-      let at-rule-s = at-inner .before .before .before .before in
-      let at-loop = at-rule-s .before .before in
-      let i = at-loop .loop .inv in
-      let r = at-rule-s .rule-s .ensures in
-      let e = at-inner .inner .given .1 in
-      let k = at-rule-s .rule-s .kept .1 .1 .0 in
-      ((reading-spot g i r e (omega arith) k, reading-next g i r e (omega arith) k), reading-held g i r e (omega arith) k)
+      let w = operand (c .before .before) in
+      ((operand-spot w, operand-next w), operand-held w)
 
   look-requires : lts.Need-look-requires (calls t) (rule-c-at t) reads.Post Inv-loop μ-loop
-  unfolding rank
   look-requires c κs =
-      let at-compared = c .before .before .before .before in
-      let at-inner = at-compared .before .before .before in
-      let at-rule-s = at-inner .before .before .before .before in
-      let at-loop = at-rule-s .before .before in
-      let at-start = at-loop .before .before .before .before .before .before in
-      let i = at-loop .loop .inv in
-      let r = at-rule-s .rule-s .ensures in
-      let e = at-inner .inner .given .1 in
-      let k = at-rule-s .rule-s .kept .1 .1 .0 in
-      let j = goes _ (at-compared .compared .ensures (at-start .args .src .now)) in
-      let k₂ = at-compared .compared .kept .1 .0 in
-      (i .ready .tokens, reading-here g i r e (omega arith) k j k₂)
+      let w = turn (c .before .before .before .before) in
+      (w .of .reading .ready .tokens, turn-here w)
 
   enum-known-behind : lts.Need-enum-known-behind (calls t) (rule-c-at t) reads.Post Inv-loop μ-loop
   enum-known-behind c = search needs
@@ -89,99 +80,47 @@ module _ (t : ℕ) where
   linked-requires c κs = search needs
 
   loop-less : lts.Need-loop-less (calls t) (rule-c-at t) reads.Post Inv-loop μ-loop
-  unfolding rank
   loop-less c =
       let at-behind = c .before .before .before in
       let at-look = at-behind .before .before in
-      let at-compared = at-look .before .before .before .before .before in
-      let at-inner = at-compared .before .before .before in
-      let at-rule-s = at-inner .before .before .before .before in
-      let at-loop = at-rule-s .before .before in
-      let at-start = at-loop .before .before .before .before .before .before in
-      let i = at-loop .loop .inv in
-      let r = at-rule-s .rule-s .ensures in
-      let e = at-inner .inner .given .1 in
-      let k = at-rule-s .rule-s .kept .1 .1 .0 in
-      let j = goes _ (at-compared .compared .ensures (at-start .args .src .now)) in
-      let k₂ = at-compared .compared .kept .1 .0 in
+      let w = turn (at-look .before .before .before .before .before) in
       let s = at-look .look .ensures .operand _ (at-behind .behind .given .1) in
-      let v = reading-goes g i r e (omega arith) k j k₂ (s .0) (s .1) (s .2) in
-      omega (arith, reading-less g i r e (omega arith) k j k₂ (s .0) (s .1), v .ready .here)
+      omega (arith, turn-less w (s .0) (s .1), turn-goes w (s .0) (s .1) (s .2) .ready .here)
 
   loop-again : lts.Need-loop-again (calls t) (rule-c-at t) reads.Post Inv-loop μ-loop
-  unfolding rank
   loop-again c =
       let at-behind = c .before .before .before in
       let at-look = at-behind .before .before in
-      let at-compared = at-look .before .before .before .before .before in
-      let at-inner = at-compared .before .before .before in
-      let at-rule-s = at-inner .before .before .before .before in
-      let at-loop = at-rule-s .before .before in
-      let at-start = at-loop .before .before .before .before .before .before in
-      let i = at-loop .loop .inv in
-      let r = at-rule-s .rule-s .ensures in
-      let e = at-inner .inner .given .1 in
-      let k = at-rule-s .rule-s .kept .1 .1 .0 in
-      let j = goes _ (at-compared .compared .ensures (at-start .args .src .now)) in
-      let k₂ = at-compared .compared .kept .1 .0 in
       let s = at-look .look .ensures .operand _ (at-behind .behind .given .1) in
-      rw (c .linked .ensures) (reading-goes g i r e (omega arith) k j k₂ (s .0) (s .1) (s .2))
+      rw (c .linked .ensures) (turn-goes (turn (at-look .before .before .before .before .before)) (s .0) (s .1) (s .2))
 
   enum-told : lts.Need-enum-told (calls t) (rule-c-at t) reads.Post Inv-loop μ-loop
   enum-told c = search needs
 
   same-length : lts.Need-same-length (calls t) (rule-c-at t) reads.Post Inv-loop μ-loop
-  same-length c =
-      let at-compared = c .before .before .before .before .before .before .before in
-      let at-rule-s = at-compared .before .before .before .before .before .before .before in
-      let at-loop = at-rule-s .before .before in
-      omega (arith, at-compared .compared .kept .1 .0, at-rule-s .rule-s .kept .1 .1 .0, at-loop .loop .inv .long)
+  same-length c = turn-long (turn (c .before .before .before .before .before .before .before))
 
   returns : lts.Need-returns (calls t) (rule-c-at t) reads.Post Inv-loop μ-loop
-  unfolding rank joined plain opens
+  unfolding joined plain opens
   returns c =
       let at-look = c .before .before in
-      let at-compared = at-look .before .before .before .before .before in
-      let at-inner = at-compared .before .before .before in
-      let at-rule-s = at-inner .before .before .before .before in
-      let at-loop = at-rule-s .before .before in
-      let at-start = at-loop .before .before .before .before .before .before in
-      let i = at-loop .loop .inv in
-      let r = at-rule-s .rule-s .ensures in
-      let e = at-inner .inner .given .1 in
-      let k = at-rule-s .rule-s .kept .1 .1 .0 in
-      let j = goes _ (at-compared .compared .ensures (at-start .args .src .now)) in
-      let k₂ = at-compared .compared .kept .1 .0 in
-      open-plain refl (λ vs. reading-ends g i r e (omega arith) k j k₂ (at-look .look .ensures .nothing (c .enum-told .given .1)) vs)
+      let w = turn (at-look .before .before .before .before .before) in
+      open-plain refl (λ vs. turn-ends w (at-look .look .ensures .nothing (c .enum-told .given .1)) vs)
 
   enum-known-behind-2 : lts.Need-enum-known-behind-2 (calls t) (rule-c-at t) reads.Post Inv-loop μ-loop
   enum-known-behind-2 c = search needs
 
   same-length-2 : lts.Need-same-length-2 (calls t) (rule-c-at t) reads.Post Inv-loop μ-loop
-  same-length-2 c =
-      let at-compared = c .before .before .before .before .before .before .before .before in
-      let at-rule-s = at-compared .before .before .before .before .before .before .before in
-      let at-loop = at-rule-s .before .before in
-      omega (arith, at-compared .compared .kept .1 .0, at-rule-s .rule-s .kept .1 .1 .0, at-loop .loop .inv .long)
+  same-length-2 c = turn-long (turn (c .before .before .before .before .before .before .before .before))
 
   returns-2 : lts.Need-returns-2 (calls t) (rule-c-at t) reads.Post Inv-loop μ-loop
-  unfolding rank joined plain opens
+  unfolding joined plain opens
   returns-2 c =
       let at-behind2 = c .before in
       let at-look = at-behind2 .before .before in
-      let at-compared = at-look .before .before .before .before .before in
-      let at-inner = at-compared .before .before .before in
-      let at-rule-s = at-inner .before .before .before .before in
-      let at-loop = at-rule-s .before .before in
-      let at-start = at-loop .before .before .before .before .before .before in
-      let i = at-loop .loop .inv in
-      let r = at-rule-s .rule-s .ensures in
-      let e = at-inner .inner .given .1 in
-      let k = at-rule-s .rule-s .kept .1 .1 .0 in
-      let j = goes _ (at-compared .compared .ensures (at-start .args .src .now)) in
-      let k₂ = at-compared .compared .kept .1 .0 in
+      let w = turn (at-look .before .before .before .before .before) in
       let s = at-look .look .ensures .missing _ (at-behind2 .behind2 .given .1) in
-      open-plain refl (λ vs. reading-misses g i r e (omega arith) k j k₂ (s .0) (s .1) (s .2) vs)
+      open-plain refl (λ vs. turn-misses w (s .0) (s .1) (s .2) vs)
 
   enum-known-inner-2 : lts.Need-enum-known-inner-2 (calls t) (rule-c-at t) reads.Post Inv-loop μ-loop
   enum-known-inner-2 c = search needs
@@ -194,8 +133,7 @@ module _ (t : ℕ) where
   returns-3 c =
       let at-inner2 = c .before in
       let at-rule-s = at-inner2 .before .before .before .before in
-      let at-loop = at-rule-s .before .before in
-      open-plain refl (λ vs. reading-stops g (at-loop .loop .inv) (at-rule-s .rule-s .ensures) (at-inner2 .inner2 .given .1) vs)
+      open-plain refl (λ vs. reading-stops (at-rule-s .before .before .loop .inv) (at-rule-s .rule-s .ensures) (at-inner2 .inner2 .given .1) vs)
 
   pub meets : {M : Type 1} → lts.Closed (calls t) (rule-c-at t) reads.Post M
   meets = lts.spec (calls t) (rule-c-at t) reads.Post Inv-loop μ-loop add-opened loop-holds rule-s-requires enum-known-inner compared-requires look-requires enum-known-behind linked-requires loop-less loop-again enum-told same-length returns enum-known-behind-2 same-length-2 returns-2 enum-known-inner-2 same-length-3 returns-3
