@@ -27,6 +27,10 @@ closes close kind = tk close ⨾ act (enclose kind)
 abbrev pub enclosed : ℕ → ℕ → Part Action Rule
 enclosed close kind = list ⨾ closes close kind
 
+-- after the first member of a list of E: its rest, and its closing bracket
+abbrev pub listedOn : ℕ → ℕ → Part Action Rule
+listedOn close kind = others false ⨾ act list-done ⨾ closes close kind
+
 -- after `lambda`; after its colon
 abbrev pub lambdaOn : Part Action Rule
 lambdaOn = parameters ⨾ tk Colon ⨾ call E ⨾ act lambda
@@ -45,12 +49,9 @@ valued = call E ⨾ act pair
 abbrev pub pairsRest : Part Action Rule
 pairsRest = call E ⨾ act pair ⨾ act list-one ⨾ others true ⨾ act list-done ⨾ closes RBrace kind.Dict
 
--- after the first E in parentheses; after the comma behind it
-abbrev pub tupleRest : Part Action Rule
-tupleRest = rest ⨾ closes RParen kind.Tuple
-
+-- after the first E in parentheses
 abbrev pub roundOn : Part Action Rule
-roundOn = tk RParen ⨾ act group ∕ tk Comma ⨾ tupleRest
+roundOn = tk RParen ⨾ act group ∕ tk Comma ⨾ rest ⨾ closes RParen kind.Tuple
 
 -- after the `(` of a call; after the `[` of an index
 abbrev pub callOn : Part Action Rule

@@ -21,7 +21,7 @@ ghost use Rattle.lookahead.specs.Tokens.{symbolAt};
 ghost use Rattle.leaves.specs.Contract.{a-node, a-list, Rules, Parts, Lists, Ready, Begun};
 ghost use Rattle.ast.specs.Kind as kind;
 ghost use Rattle.pyhyeon.specs.Action.{empty};
-ghost use Rattle.expr.specs.Parts.{member, others, closes, enclosed, lambdaOn, lambdaBody, teeOn, valued, pairsRest, tupleRest, roundOn, callOn, indexOn};
+ghost use Rattle.expr.specs.Parts.{member, others, closes, enclosed, lambdaOn, lambdaBody, teeOn, valued, pairsRest, listedOn, roundOn, callOn, indexOn};
 
 mod comma;
 mod parameters;
@@ -659,26 +659,7 @@ fn brace(
         };
         pairs(src, toks, tree, left, opener, first, on)
     } else {
-        set(src, toks, tree, left, opener, first, s)
-    }
-}
-
-fn set(
-    src: &[u8],
-    toks: &[u32],
-    tree: &mut [u32],
-    left: u32,
-    opener: TokenNumber,
-    first: NodeNumber,
-    s: State,
-) -> Parsed
-    requires { ⌜ Ready (now src) (now toks) (now tree) s 1 ⌝ }
-    requires { ⌜ (opener .0 < s .at .0) × (first .0 < s .nodes) ⌝ }
-    ensures { λ r. ⌜ Parts (now (src .entry)) (now (toks .entry)) left setOn (node (first .0) ∷ token (opener .0) ∷ []) a-node s (now (tree .entry)) r (now (tree .exit)) ⌝ }
-{
-    let inner = rest(src, toks, tree, left, false, first, first, s);
-    match inner {
-        Parsed::Node(head, after) => shut(
+        listed(
             src,
             toks,
             tree,
@@ -686,9 +667,31 @@ fn set(
             opener,
             token::RBRACE,
             ast::SET,
-            head,
-            after,
-        ),
+            first,
+            s,
+        )
+    }
+}
+
+// The rest of a list of E whose member `first` was read, up to the bracket `close`, as a node of this kind from the token `opener` on.
+fn listed(
+    src: &[u8],
+    toks: &[u32],
+    tree: &mut [u32],
+    left: u32,
+    opener: TokenNumber,
+    close: u32,
+    kind: u32,
+    first: NodeNumber,
+    s: State,
+) -> Parsed
+    requires { ⌜ Ready (now src) (now toks) (now tree) s 1 ⌝ }
+    requires { ⌜ (opener .0 < s .at .0) × (first .0 < s .nodes) × (mem Eof (close ∷ []) ≡ false) × (mem String (close ∷ []) ≡ false) ⌝ }
+    ensures { λ r. ⌜ Parts (now (src .entry)) (now (toks .entry)) left (listedOn close kind) (growing (first .0) (first .0) ∷ token (opener .0) ∷ []) a-node s (now (tree .entry)) r (now (tree .exit)) ⌝ }
+{
+    let inner = rest(src, toks, tree, left, false, first, first, s);
+    match inner {
+        Parsed::Node(head, after) => shut(src, toks, tree, left, opener, close, kind, head, after),
         Parsed::Refused(code, after) => Parsed::Refused(code, after),
     }
 }
@@ -880,59 +883,7 @@ fn paren(
         leaves::widen(toks, tree, opener, first, on);
         Parsed::Node(first, on)
     } else if lookahead::is_symbol(symbol, token::COMMA) {
-        let t = at.0 + 1;
-        let on = State {
-            at: TokenNumber(t),
-            nodes: s.nodes,
-            opened: s.opened,
-            used: s.used,
-        };
-        tuple(src, toks, tree, left, opener, first, on)
-    } else {
-        Parsed::Refused(14, s)
-    }
-}
-
-// A Tuple, after its first comma.
-fn tuple(
-    src: &[u8],
-    toks: &[u32],
-    tree: &mut [u32],
-    left: u32,
-    opener: TokenNumber,
-    first: NodeNumber,
-    s: State,
-) -> Parsed
-    requires { ⌜ Ready (now src) (now toks) (now tree) s 1 ⌝ }
-    requires { ⌜ (opener .0 < s .at .0) × (first .0 < s .nodes) ⌝ }
-    ensures { λ r. ⌜ Parts (now (src .entry)) (now (toks .entry)) left tupleRest (node (first .0) ∷ token (opener .0) ∷ []) a-node s (now (tree .entry)) r (now (tree .exit)) ⌝ }
-{
-    let at = s.at;
-    if lookahead::begins_e(lookahead::symbol_at(src, toks, at)) {
-        let inner = rule_e(src, toks, tree, left, s);
-        match inner {
-            Parsed::Node(n, after) => {
-                leaves::link(tree, first, n, after);
-                let more = rest(src, toks, tree, left, false, first, n, after);
-                match more {
-                    Parsed::Node(head, done) => shut(
-                        src,
-                        toks,
-                        tree,
-                        left,
-                        opener,
-                        token::RPAREN,
-                        ast::TUPLE,
-                        head,
-                        done,
-                    ),
-                    Parsed::Refused(code, done) => Parsed::Refused(code, done),
-                }
-            }
-            Parsed::Refused(code, after) => Parsed::Refused(code, after),
-        }
-    } else {
-        shut(
+        listed(
             src,
             toks,
             tree,
@@ -943,6 +894,8 @@ fn tuple(
             first,
             s,
         )
+    } else {
+        Parsed::Refused(14, s)
     }
 }
 

@@ -177,6 +177,11 @@ module _ (src toks : List ℕ) (room : ℕ) (s : State) (tr : List ℕ) (ws : Li
         ∙ then-assoc (on src toks room p (s .opened) st′) (on src toks room (tail c p)) (on src toks room q)
         ∙ sym (regroup src toks room p (tail c p ⨾ q) (s .opened) st′)
 
+    -- behind the comma it is a member and the rest, or nothing
+    tail-parts : begins first (p ⨾ tail c p) ≡ begins first p → on src toks room (tail c p ⨾ q) (s .opened) st ≡ on src toks room ((p ⨾ tail c p ∕ skip) ⨾ q) (s .opened) st′
+    unfolding walk seqD thenD sameD byD skipP state
+    tail-parts b = rw (comma, b, sees-at src toks (begins first p) (s .at .0 + 1) h′)
+
 module _ {src toks : List ℕ} {room : ℕ} {out : Shape} {vs : List Value} {a : Parsed} {t : List ℕ} where
   -- a token that is there, and one that is not
   pub tok-then : {set : List ℕ} {q : Part Action Rule} {s : State} {tr : List ℕ} {ws : List Value} → s .at .0 ≤ eofAt toks → mem (symbolAt src toks (s .at .0)) set ≡ true →
@@ -260,6 +265,11 @@ module _ {src toks : List ℕ} {room : ℕ} {out : Shape} {vs : List Value} {a :
   pub list-on : {i : ℕ} {p q : Part Action Rule} {s : State} {tr : List ℕ} {ws : List Value} → T (low pyhyeon 100 100 p) → s .at .0 + 1 ≤ eofAt toks → mem (symbolAt src toks (s .at .0)) (i ∷ []) ≡ true →
       mem (symbolAt src toks (s .at .0 + 1)) (begins first p) ≡ true → Comes src toks room (p ⨟ (tail i p ⨾ q)) out vs ws (past s) tr a t → Comes src toks room (tail i p ⨾ q) out vs ws s tr a t
   list-on {i} {p} {q} {s = s} {tr = tr} {ws = ws} l h e f c = record { told = rw (tail-goes src toks room s tr ws (omega arith) i p q l e h f) (c .told); frame = c .frame }
+
+  -- the same of what was read already: behind the comma stands a member and the rest, or nothing
+  pub list-parts : {i : ℕ} {p q : Part Action Rule} {s : State} {tr : List ℕ} {ws : List Value} → T (low pyhyeon 100 100 p) → s .at .0 + 1 ≤ eofAt toks → mem (symbolAt src toks (s .at .0)) (i ∷ []) ≡ true → begins first (p ⨾ tail i p) ≡ begins first p →
+      Comes src toks room (tail i p ⨾ q) out vs ws s tr a t → Comes src toks room ((p ⨾ tail i p ∕ skip) ⨾ q) out vs ws (past s) tr a t
+  list-parts {i} {p} {q} {s = s} {tr = tr} {ws = ws} l h e b c = record { told = rw (tail-parts src toks room s tr ws (omega arith) i p q l e h b) at (c .told); frame = c .frame }
 
 -- a rule is its body, with one opening more
 module _ {src toks : List ℕ} {room : ℕ} {r : Rule} {out : Shape} {s : State} {tr : List ℕ} where

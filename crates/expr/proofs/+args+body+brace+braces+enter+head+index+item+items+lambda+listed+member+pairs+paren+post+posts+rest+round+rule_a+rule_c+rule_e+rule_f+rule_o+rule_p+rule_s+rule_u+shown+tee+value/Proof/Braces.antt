@@ -1,0 +1,124 @@
+-- `expr::braces`, a member of the cycle.
+-- Assumes nothing.
+use Rattle.joint.proofs.Loops.{ready-of}
+use Rattle.joint.proofs.Ends.{act-wrote}
+use Rattle.joint.proofs.Chain.{tok-then, part-then, part-stop, or-first, or-next}
+use Rattle.joint.proofs.Bounds.{after-call, spares-e}
+use Rattle.lookahead.proofs.Tokens.{took}
+use Rattle.lookahead.proofs.Tests.{learnt}
+use Rattle.pyhyeon.specs.Tables.{first, rank}
+use Rattle.token.specs.Code as code
+use Rattle.grammar.specs.Descent.{null, begins}
+use mathlib.Core.List.{[], _∷_}
+use mathlib.Core.Path.{refl, sym, _∙_}
+use borrow.Author.Needs.{needs}
+use native.Mathlib.Omega.{arith}
+use Prim.Native.Nat.{ℕ}
+use Rattle.expr.proofs.+args+body+brace+braces+enter+head+index+item+items+lambda+listed+member+pairs+paren+post+posts+rest+round+rule_a+rule_c+rule_e+rule_f+rule_o+rule_p+rule_s+rule_u+shown+tee+value.Lts-braces as lts
+use Rattle.expr.proofs.braces.Reads as reads
+use Rattle.lookahead.proofs.symbol_at.Reads as symbol-at-reads
+use Rattle.lookahead.proofs.is_symbol.Reads as is-symbol-reads
+use Rattle.expr_leaves.proofs.put_empty.Reads as put-empty-reads
+use Rattle.expr.proofs.enter.Reads as enter
+use Rattle.expr.proofs.brace.Reads as brace
+use Rattle.expr.proofs.+args+body+brace+braces+enter+head+index+item+items+lambda+listed+member+pairs+paren+post+posts+rest+round+rule_a+rule_c+rule_e+rule_f+rule_o+rule_p+rule_s+rule_u+shown+tee+value.Proof.Start.{braces-at, enter-below, brace-below}
+
+abbrev calls : ℕ → lts.Claims
+calls t = (symbol-at-reads.Asked, symbol-at-reads.Learnt, is-symbol-reads.Asked, is-symbol-reads.Learnt, put-empty-reads.Asked, put-empty-reads.Learnt, enter-below t, enter.Post, brace-below t, brace.Post)
+
+module _ (t : ℕ) where
+  symbol-at-requires : lts.Need-symbol-at-requires (calls t) (braces-at t) reads.Post
+  symbol-at-requires c κs =
+      let at-start = c .before .before .before .before in
+      (at-start .pre .1 .0 .tokens, at-start .pre .1 .0 .here)
+
+  is-symbol-requires : lts.Need-is-symbol-requires (calls t) (braces-at t) reads.Post
+  is-symbol-requires c κs = search needs
+
+  add-t : lts.Need-add-t (calls t) (braces-at t) reads.Post
+  add-t c = omega arith
+
+  put-empty-requires : lts.Need-put-empty-requires (calls t) (braces-at t) reads.Post
+  put-empty-requires c κs =
+      let at-if1 = c .before .before in
+      let at-is-symbol = at-if1 .before in
+      let at-symbol-at = at-is-symbol .before in
+      let at-start = at-symbol-at .before .before .before .before .before in
+      let r = at-start .pre .1 .0 in
+      let e = learnt (code.RBrace ∷ []) (at-if1 .if1 .taken) (at-is-symbol .is-symbol .ensures) (at-symbol-at .symbol-at .ensures) in
+      let l = took (code.RBrace ∷ []) refl refl (r .tokens) (r .here) e in
+      omega arith
+
+  enter-requires : lts.Need-enter-requires (calls t) (braces-at t) reads.Post
+  enter-requires c κs =
+      let at-start = c .before .before .before .before .before .before .before .before in
+      let r = at-start .pre .1 .0 in
+      (omega arith, ready-of (r .tokens) (omega arith))
+
+  enum-known-inner : lts.Need-enum-known-inner (calls t) (braces-at t) reads.Post
+  enum-known-inner c = search needs
+
+  brace-requires : lts.Need-brace-requires (calls t) (braces-at t) reads.Post
+  unfolding first rank
+  brace-requires c κs =
+      let at-inner = c .before .before in
+      let at-enter = at-inner .before .before .before .before in
+      let at-start = at-enter .before .before .before .before .before .before .before .before .before in
+      let r = at-start .pre .1 .0 in
+      let g = after-call _ _ (r .tokens) spares-e refl (r .here) (at-enter .enter .ensures) (at-inner .inner .given .1) in
+      (omega arith, (ready-of (r .tokens) (omega arith), (omega arith, g .node)))
+
+  enum-known-inner-2 : lts.Need-enum-known-inner-2 (calls t) (braces-at t) reads.Post
+  enum-known-inner-2 c = search needs
+
+  same-length : lts.Need-same-length (calls t) (braces-at t) reads.Post
+  same-length c = search needs
+
+  returns : lts.Need-returns (calls t) (braces-at t) reads.Post
+  unfolding begins null
+  returns c =
+      let at-put-empty = c .before .before .before .before in
+      let at-if1 = at-put-empty .before .before .before in
+      let at-is-symbol = at-if1 .before in
+      let at-symbol-at = at-is-symbol .before in
+      let at-start = at-symbol-at .before .before .before .before .before in
+      let r = at-start .pre .1 .0 in
+      let e = learnt (code.RBrace ∷ []) (at-if1 .if1 .taken) (at-is-symbol .is-symbol .ensures) (at-symbol-at .symbol-at .ensures) in
+      let l = took (code.RBrace ∷ []) refl refl (r .tokens) (r .here) e in
+      record { comes = λ vs. or-first (r .here) e (tok-then (r .here) e (act-wrote (r .used ∙ sym (l .text)) (at-put-empty .put-empty .ensures _))) }
+
+  same-length-2 : lts.Need-same-length-2 (calls t) (braces-at t) reads.Post
+  same-length-2 c = search needs
+
+  returns-2 : lts.Need-returns-2 (calls t) (braces-at t) reads.Post
+  unfolding begins null
+  returns-2 c =
+      let at-brace = c .before .before in
+      let at-inner = at-brace .before .before .before in
+      let at-enter = at-inner .before .before .before .before in
+      let at-if1 = at-enter .before .before in
+      let at-is-symbol = at-if1 .before in
+      let at-symbol-at = at-is-symbol .before in
+      let at-start = at-symbol-at .before .before .before .before .before in
+      let r = at-start .pre .1 .0 in
+      let e = learnt (code.RBrace ∷ []) (at-if1 .if1 .left) (at-is-symbol .is-symbol .ensures) (at-symbol-at .symbol-at .ensures) in
+      record { comes = λ vs. or-next (r .here) e (part-then (at-enter .enter .ensures) (at-inner .inner .given .1) (at-brace .brace .ensures .comes vs)) }
+
+  same-length-3 : lts.Need-same-length-3 (calls t) (braces-at t) reads.Post
+  same-length-3 c = search needs
+
+  returns-3 : lts.Need-returns-3 (calls t) (braces-at t) reads.Post
+  unfolding begins null
+  returns-3 c =
+      let at-inner2 = c .before in
+      let at-enter = at-inner2 .before .before .before .before in
+      let at-if1 = at-enter .before .before in
+      let at-is-symbol = at-if1 .before in
+      let at-symbol-at = at-is-symbol .before in
+      let at-start = at-symbol-at .before .before .before .before .before in
+      let r = at-start .pre .1 .0 in
+      let e = learnt (code.RBrace ∷ []) (at-if1 .if1 .left) (at-is-symbol .is-symbol .ensures) (at-symbol-at .symbol-at .ensures) in
+      record { comes = λ vs. or-next (r .here) e (part-stop _ (at-enter .enter .ensures) (at-inner2 .inner2 .given .1)) }
+
+  pub meets : {M : Type 1} → lts.Closed (calls t) (braces-at t) reads.Post M
+  meets = lts.spec (calls t) (braces-at t) reads.Post symbol-at-requires is-symbol-requires add-t put-empty-requires enter-requires enum-known-inner brace-requires enum-known-inner-2 same-length returns same-length-2 returns-2 same-length-3 returns-3

@@ -1,0 +1,137 @@
+-- `expr::items`, a member of the cycle.
+-- Assumes nothing.
+use Rattle.joint.proofs.Loops.{ready-of}
+use Rattle.joint.proofs.Ends.{list-last, none-last, one-then}
+use Rattle.joint.proofs.Chain.{called, part-then, part-stop, or-first, or-next}
+use Rattle.joint.proofs.Bounds.{after-rule, spares-e}
+use Rattle.lookahead.proofs.Tokens.{before-eof}
+use Rattle.lookahead.proofs.Tests.{learnt}
+use Rattle.pyhyeon.specs.Tables.{first, firstE, rank}
+use Rattle.grammar.specs.Descent.{null, begins}
+use mathlib.Core.Path.{refl}
+use borrow.Author.Needs.{needs}
+use native.Mathlib.Omega.{arith}
+use Prim.Native.Nat.{ℕ}
+use Rattle.expr.proofs.+args+body+brace+braces+enter+head+index+item+items+lambda+listed+member+pairs+paren+post+posts+rest+round+rule_a+rule_c+rule_e+rule_f+rule_o+rule_p+rule_s+rule_u+shown+tee+value.Lts-items as lts
+use Rattle.expr.proofs.items.Reads as reads
+use Rattle.lookahead.proofs.symbol_at.Reads as symbol-at-reads
+use Rattle.lookahead.proofs.begins_e.Reads as begins-e-reads
+use Rattle.expr.proofs.rule_e.Reads as rule-e
+use Rattle.expr.proofs.rest.Reads as rest
+use Rattle.expr.proofs.+args+body+brace+braces+enter+head+index+item+items+lambda+listed+member+pairs+paren+post+posts+rest+round+rule_a+rule_c+rule_e+rule_f+rule_o+rule_p+rule_s+rule_u+shown+tee+value.Proof.Start.{items-at, rule-e-below, rest-below}
+
+abbrev calls : ℕ → lts.Claims
+calls t = (symbol-at-reads.Asked, symbol-at-reads.Learnt, begins-e-reads.Asked, begins-e-reads.Learnt, rule-e-below t, rule-e.Post, rest-below t, rest.Post)
+
+module _ (t : ℕ) where
+  symbol-at-requires : lts.Need-symbol-at-requires (calls t) (items-at t) reads.Post
+  symbol-at-requires c κs =
+      let at-start = c .before .before .before .before in
+      (at-start .pre .1 .tokens, at-start .pre .1 .here)
+
+  begins-e-requires : lts.Need-begins-e-requires (calls t) (items-at t) reads.Post
+  begins-e-requires c κs = search needs
+
+  rule-e-requires : lts.Need-rule-e-requires (calls t) (items-at t) reads.Post
+  unfolding first
+  rule-e-requires c κs =
+      let at-if1 = c .before in
+      let at-begins-e = at-if1 .before in
+      let at-symbol-at = at-begins-e .before in
+      let at-start = at-symbol-at .before .before .before .before .before in
+      let r = at-start .pre .1 in
+      let b = learnt firstE (at-if1 .if1 .taken) (at-begins-e .begins-e .ensures) (at-symbol-at .symbol-at .ensures) in
+      (omega arith, (ready-of (r .tokens) (omega arith), record { seen = b }))
+
+  enum-known-inner : lts.Need-enum-known-inner (calls t) (items-at t) reads.Post
+  enum-known-inner c = search needs
+
+  rest-requires : lts.Need-rest-requires (calls t) (items-at t) reads.Post
+  unfolding first rank
+  rest-requires c κs =
+      let at-inner = c .before .before in
+      let at-rule-e = at-inner .before .before .before .before in
+      let at-if1 = at-rule-e .before .before in
+      let at-begins-e = at-if1 .before in
+      let at-symbol-at = at-begins-e .before in
+      let at-start = at-symbol-at .before .before .before .before .before in
+      let r = at-start .pre .1 in
+      let b = learnt firstE (at-if1 .if1 .taken) (at-begins-e .begins-e .ensures) (at-symbol-at .symbol-at .ensures) in
+      let lt = before-eof firstE refl (r .tokens) (r .here) b in
+      let g = after-rule _ _ (r .tokens) spares-e lt (at-rule-e .rule-e .ensures) (at-inner .inner .given .1) in
+      (omega arith, (ready-of (r .tokens) (omega arith), (g .node, g .node)))
+
+  enum-known-more : lts.Need-enum-known-more (calls t) (items-at t) reads.Post
+  enum-known-more c = search needs
+
+  enum-known-more-2 : lts.Need-enum-known-more-2 (calls t) (items-at t) reads.Post
+  enum-known-more-2 c = search needs
+
+  enum-known-inner-2 : lts.Need-enum-known-inner-2 (calls t) (items-at t) reads.Post
+  enum-known-inner-2 c = search needs
+
+  same-length : lts.Need-same-length (calls t) (items-at t) reads.Post
+  same-length c = search needs
+
+  returns : lts.Need-returns (calls t) (items-at t) reads.Post
+  unfolding first begins null
+  returns c =
+      let at-more = c .before in
+      let at-rest = at-more .before .before .before .before in
+      let at-inner = at-rest .before .before .before in
+      let at-rule-e = at-inner .before .before .before .before in
+      let at-if1 = at-rule-e .before .before in
+      let at-begins-e = at-if1 .before in
+      let at-symbol-at = at-begins-e .before in
+      let at-start = at-symbol-at .before .before .before .before .before in
+      let r = at-start .pre .1 in
+      let b = learnt firstE (at-if1 .if1 .taken) (at-begins-e .begins-e .ensures) (at-symbol-at .symbol-at .ensures) in
+      let d = at-rest .rest .ensures .leads _ _ (at-more .more .given .1) in
+      record { comes = λ vs. or-first (r .here) b (part-then (called (r .here) b (at-rule-e .rule-e .ensures)) (at-inner .inner .given .1) (one-then (d .same _ _ _ _ (list-last (d .ready .used))))) }
+
+  same-length-2 : lts.Need-same-length-2 (calls t) (items-at t) reads.Post
+  same-length-2 c = search needs
+
+  returns-2 : lts.Need-returns-2 (calls t) (items-at t) reads.Post
+  unfolding first begins null
+  returns-2 c =
+      let at-more2 = c .before in
+      let at-rest = at-more2 .before .before .before .before in
+      let at-inner = at-rest .before .before .before in
+      let at-rule-e = at-inner .before .before .before .before in
+      let at-if1 = at-rule-e .before .before in
+      let at-begins-e = at-if1 .before in
+      let at-symbol-at = at-begins-e .before in
+      let at-start = at-symbol-at .before .before .before .before .before in
+      let r = at-start .pre .1 in
+      let b = learnt firstE (at-if1 .if1 .taken) (at-begins-e .begins-e .ensures) (at-symbol-at .symbol-at .ensures) in
+      record { comes = λ vs. or-first (r .here) b (part-then (called (r .here) b (at-rule-e .rule-e .ensures)) (at-inner .inner .given .1) (one-then (at-rest .rest .ensures .stops _ _ _ (at-more2 .more2 .given .1) _ _ _))) }
+
+  same-length-3 : lts.Need-same-length-3 (calls t) (items-at t) reads.Post
+  same-length-3 c = search needs
+
+  returns-3 : lts.Need-returns-3 (calls t) (items-at t) reads.Post
+  unfolding first begins null
+  returns-3 c =
+      let at-inner2 = c .before in
+      let at-rule-e = at-inner2 .before .before .before .before in
+      let at-if1 = at-rule-e .before .before in
+      let at-begins-e = at-if1 .before in
+      let at-symbol-at = at-begins-e .before in
+      let at-start = at-symbol-at .before .before .before .before .before in
+      let r = at-start .pre .1 in
+      let b = learnt firstE (at-if1 .if1 .taken) (at-begins-e .begins-e .ensures) (at-symbol-at .symbol-at .ensures) in
+      record { comes = λ vs. or-first (r .here) b (part-stop _ (called (r .here) b (at-rule-e .rule-e .ensures)) (at-inner2 .inner2 .given .1)) }
+
+  returns-4 : lts.Need-returns-4 (calls t) (items-at t) reads.Post
+  unfolding first begins null
+  returns-4 c =
+      let at-begins-e = c .before in
+      let at-symbol-at = at-begins-e .before in
+      let at-start = at-symbol-at .before .before .before .before .before in
+      let r = at-start .pre .1 in
+      let b = learnt firstE (c .if1 .left) (at-begins-e .begins-e .ensures) (at-symbol-at .symbol-at .ensures) in
+      record { comes = λ vs. or-next (r .here) b (none-last (r .used)) }
+
+  pub meets : {M : Type 1} → lts.Closed (calls t) (items-at t) reads.Post M
+  meets = lts.spec (calls t) (items-at t) reads.Post symbol-at-requires begins-e-requires rule-e-requires enum-known-inner rest-requires enum-known-more enum-known-more-2 enum-known-inner-2 same-length returns same-length-2 returns-2 same-length-3 returns-3 returns-4
