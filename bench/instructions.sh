@@ -1,5 +1,5 @@
 #!/bin/sh
-# Counts instructions under valgrind, which no load changes: the mean of one source for each reader, and what zeroing has of it. Wants
+# Counts instructions under valgrind, which no load changes: the mean of one source for each reader and bound, and what zeroing has of it. Wants
 # bench/run.sh to have been run. `bench/instructions.sh profile` prints the reader's functions instead.
 set -eu
 cd "$(dirname "$0")/.."
@@ -33,13 +33,19 @@ for set in scripts 1000 65536; do
     bytes=$(cat "$folder"/*.py | wc -c)
     sources=$(ls "$folder" | wc -l)
     row() { echo "| $set | $1 | $(($2 / sources)) | $(($2 * 10 / bytes)) |" | sed 's/\([0-9]\) |$/.\1 |/'; }
+    # The row of a side that zeroes the areas, and the row of memset's part.
+    zeroing_rows() {
+        row "$2" "$(count "$1" $set)"
+        zeroing=$(callgrind_annotate --threshold=100 "$out/$1.$set" 2>/dev/null | sed -n 's/^ *\([0-9,]*\) .*memset.*/\1/p' | tr -d , | head -n 1)
+        row "of that, memset, a byte counted as one" "${zeroing:-0}"
+    }
     echo "| set | reader | instructions per source | per byte |"
     echo "|---|---|---|---|"
-    row "reader, static library" "$(count 0 $set)"
-    zeroing=$(callgrind_annotate --threshold=100 "$out/0.$set" 2>/dev/null | sed -n 's/^ *\([0-9,]*\) .*memset.*/\1/p' | tr -d , | head -n 1)
-    row "of that, memset, a byte counted as one" "${zeroing:-0}"
-    row "plain Rust, tree of Box and Vec" "$(count 1 $set)"
-    row "plain Rust, and layout in records" "$(count 2 $set)"
-    row "plain Rust, and areas filled" "$(count 3 $set)"
+    zeroing_rows 0 "reader, static library"
+    zeroing_rows 1 "bound: zeroing alone"
+    zeroing_rows 2 "bound: zeroing, UTF-8 check, tokenizer in C"
+    row "plain Rust, tree of Box and Vec" "$(count 3 $set)"
+    row "plain Rust, and layout in records" "$(count 4 $set)"
+    row "plain Rust, and areas filled" "$(count 5 $set)"
     row "CPython, ast only" "$(($(python_count $set 2) - $(python_count $set 1)))"
 done

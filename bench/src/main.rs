@@ -1,4 +1,4 @@
-//! Times the verified reader beside a plain one in Rust and CPython's parser, over the same sources.
+//! Times the verified reader beside lower bounds in C, a plain reader in Rust and CPython's parser, over the same sources.
 //!
 //! `bench FOLDER` writes the sources into FOLDER and prints the table; `bench --pass SIDE SET TIMES` makes passes of
 //! one side alone, for a profile; `bench --sources FOLDER` writes the sources alone; `bench --kiosks FOLDER` writes a
@@ -8,7 +8,8 @@ mod clock;
 mod scripts;
 mod sides;
 
-use sides::{Buffers, SIDES};
+use sides::{Buffers, PLAIN, SIDES};
+use std::collections::BTreeSet;
 use std::path::Path;
 use std::process::Command;
 
@@ -86,35 +87,39 @@ fn write_kiosks(folder: &Path) {
     }
 }
 
+/// What a set took: the best pass of each side, and CPython's, in ns.
+struct Row<'a> {
+    set: &'a Set,
+    sides: Vec<f64>,
+    python: f64,
+}
+
 fn table(folder: &Path) {
     let sets = sets();
     let mut buffers = [Buffers::new(), Buffers::new()];
-    sets.iter().for_each(|set| alike(set, &mut buffers));
+    check_every_token(&mut buffers);
+    sets.iter().for_each(|set| check(set, &mut buffers));
     write_sources(folder, &sets);
     let python = cpython(folder);
-    let rows: Vec<(&Set, Vec<f64>)> = sets
-        .iter()
-        .map(|set| {
-            let mut times = rust_times(set, &mut buffers[0]);
-            times.push(python.iter().find(|(name, _)| name == set.name).expect("CPython timed it").1);
-            (set, times)
-        })
-        .collect();
-    rows.iter().for_each(|(set, times)| print_set(set, times));
+    let row = |set| Row { set, sides: times(set, &mut buffers[0]), python: of_set(set, &python) };
+    let rows: Vec<Row> = sets.iter().map(row).collect();
+    rows.iter().for_each(print_set);
     print_goals(&rows);
 }
 
-/// Each source must be accepted, and alike in both readers; else a time would mean nothing.
-fn alike(set: &Set, [library, plain]: &mut [Buffers; 2]) {
+/// Checks the source that has every token, by their codes from 1 to 49.
+fn check_every_token(buffers: &mut [Buffers; 2]) {
+    let [_, _, tokens, ..] = alike(&scripts::every_token(), buffers);
+    let codes: BTreeSet<u32> = buffers[0].tokens.chunks(3).take(tokens as usize + 1).map(|token| token[0]).collect();
+    assert!(codes.into_iter().eq(1..=49), "a token is missing");
+}
+
+/// Checks each source of a set, and prints what the set is made of.
+fn check(set: &Set, buffers: &mut [Buffers; 2]) {
     let mut used = [0usize; 3];
     for src in &set.sources {
-        let answer = library.call(src);
-        assert_eq!(answer, plain.read(src), "the readers answer alike");
-        assert_eq!(answer[0], 0, "refused at {}: {}", answer[1], String::from_utf8_lossy(src));
-        let (tokens, text, tree) = plain::areas(src.len());
-        assert!(library.tokens[..tokens] == plain.tokens[..tokens] && library.text[..text] == plain.text[..text]);
-        assert!(library.tree[..tree] == plain.tree[..tree]);
-        used = [used[0] + answer[2] as usize, used[1] + answer[3] as usize, used[2] + answer[4] as usize];
+        let [_, _, tokens, nodes, text, _] = alike(src, buffers);
+        used = [used[0] + tokens as usize, used[1] + nodes as usize, used[2] + text as usize];
     }
     let per = |count: usize| count as f64 / set.bytes() as f64;
     println!(
@@ -128,8 +133,38 @@ fn alike(set: &Set, [library, plain]: &mut [Buffers; 2]) {
     );
 }
 
+/// A source must be accepted, and alike in both readers and in the bounds; else a time would mean nothing. The answer.
+fn alike(src: &[u8], [library, other]: &mut [Buffers; 2]) -> [u32; 6] {
+    let answer = library.call(src);
+    assert_eq!(answer, other.read(src), "the readers answer alike");
+    assert_eq!(answer[0], 0, "refused at {}: {}", answer[1], String::from_utf8_lossy(src));
+    let (tokens, text, tree) = plain::areas(src.len());
+    assert!(library.tokens[..tokens] == other.tokens[..tokens] && library.text[..text] == other.text[..text]);
+    assert!(library.tree[..tree] == other.tree[..tree]);
+    check_bounds(src, answer[2] as usize, library, other);
+    answer
+}
+
+/// One bound leaves so many tokens, the reader's, and zeros; the other zeros alone; neither writes behind the areas.
+fn check_bounds(src: &[u8], tokens: usize, library: &Buffers, bound: &mut Buffers) {
+    let words = 3 * (tokens + 1);
+    bound.paint(src.len());
+    let found = bound.scan(src);
+    let differs = (0..words).find(|&word| library.tokens[word] != bound.tokens[word]);
+    assert_eq!(
+        (found, differs),
+        (tokens, None),
+        "tokens, and the word where the bound's differ: {}",
+        String::from_utf8_lossy(src)
+    );
+    assert!(bound.zeroed(src.len(), words), "zeros behind the bound's tokens");
+    bound.paint(src.len());
+    bound.zero(src);
+    assert!(bound.zeroed(src.len(), 0), "zeros, where there is nothing else");
+}
+
 /// The best pass of each side, in ns; the sides take turns, so that load falls on all.
-fn rust_times(set: &Set, buffers: &mut Buffers) -> Vec<f64> {
+fn times(set: &Set, buffers: &mut Buffers) -> Vec<f64> {
     let mut best = vec![f64::INFINITY; SIDES.len()];
     for _ in 0..set.passes {
         for (best, (_, pass)) in best.iter_mut().zip(SIDES) {
@@ -149,24 +184,30 @@ fn cpython(folder: &Path) -> Vec<(String, f64)> {
     lines.lines().filter_map(pair).collect()
 }
 
-fn print_set(set: &Set, times: &[f64]) {
-    println!("\n| {} | ns per source | MB/s | times the reader |\n|---|---|---|---|", set.name);
-    let names = SIDES.iter().map(|side| side.0).chain(["CPython, ast only"]);
-    for (name, time) in names.zip(times) {
-        let (each, speed) = (time / set.sources.len() as f64, set.bytes() as f64 / time * 1000.0);
-        println!("| {name} | {each:.0} | {speed:.1} | {:.2} |", time / times[0]);
+/// CPython's best pass over a set.
+fn of_set(set: &Set, python: &[(String, f64)]) -> f64 {
+    python.iter().find(|(name, _)| name == set.name).expect("CPython timed it").1
+}
+
+fn print_set(row: &Row) {
+    let (sources, bytes) = (row.set.sources.len() as f64, row.set.bytes() as f64);
+    println!("\n| {} | ns per source | MB/s | times the reader |\n|---|---|---|---|", row.set.name);
+    let sides = SIDES.iter().map(|side| side.0).zip(row.sides.iter().copied());
+    for (name, time) in sides.chain([("CPython, ast only", row.python)]) {
+        println!("| {name} | {:.0} | {:.1} | {:.2} |", time / sources, bytes / time * 1000.0, time / row.sides[0]);
     }
 }
 
-fn print_goals(rows: &[(&Set, Vec<f64>)]) {
-    let per_byte = |row: usize| rows[row].1[0] / rows[row].0.bytes() as f64;
+fn print_goals(rows: &[Row]) {
+    let [scripts, small, large] = rows else { panic!("three sets") };
+    let per_byte = |row: &Row| row.sides[0] / row.set.bytes() as f64;
     let met = |yes: bool| if yes { "met" } else { "missed" };
-    let python = rows[0].1[4] / rows[0].1[0];
-    println!("\n20 x CPython on the scripts: {python:.1}, {}", met(python >= 20.0));
-    for side in 1..SIDES.len() {
-        let ratio = rows[0].1[0] / rows[0].1[side];
+    let python = scripts.python / scripts.sides[0];
+    println!("\n28 x CPython on the scripts: {python:.1}, {}", met(python >= 28.0));
+    for side in PLAIN {
+        let ratio = scripts.sides[0] / scripts.sides[side];
         println!("within 1.5 x of {} on the scripts: {ratio:.2}, {}", SIDES[side].0, met(ratio <= 1.5));
     }
-    let even = per_byte(1) / per_byte(2);
+    let even = per_byte(small) / per_byte(large);
     println!("bytes per second at 65,536 over those at 1,000, at least 0.8: {even:.2}, {}", met(even >= 0.8));
 }

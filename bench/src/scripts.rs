@@ -109,3 +109,26 @@ pub fn sized(size: usize, first: u64) -> Vec<u8> {
     }
     out
 }
+
+/// A source with every token, and with characters that are not ASCII. It is checked, and not timed.
+pub fn every_token() -> Vec<u8> {
+    let lines = [
+        "# é, €, 😀\n",
+        "class Lift:\r\n",
+        "  def up(self, t_2):\n",
+        "    while None == 0 or True != False and not iff:\n",
+        "      if a < 1: break\n",
+        "      elif b <= 22 or c > 3.5: pass\n",
+        "      else: continue\n",
+        "      # as deep as before\n",
+        "\n",
+        "    for each in t{1, -2, +3, - 4}:\n",
+        "      x = [continued * 2 / 3, a // 4 % 5, {\"é\": '\\'', \"\\\"€\\\\\": ''}]\n",
+        "  def down(self): return self.at >= 4.25E+2\n",
+        "y = lambda u, v: u\t+ v - 0.5e1.e2; z = 1.e5\n",
+        "if y:\n",
+        "  return z or y\n",
+        "#",
+    ];
+    lines.concat().into_bytes()
+}
