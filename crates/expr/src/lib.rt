@@ -160,7 +160,7 @@ fn rule_o(src: &[u8], toks: &[u32], tree: &mut [u32], left: u32, s: State) -> Pa
         let inner = rule_a(src, toks, tree, left, st);
         match inner {
             Parsed::Node(n, after) => {
-                let made = levels::joined(toks, tree, before, n, after);
+                let made = levels::join(toks, tree, before, n, after);
                 let l = made.0;
                 let done = made.1;
                 let behind = levels::look(src, toks, Level::Or, done);
@@ -199,7 +199,7 @@ fn rule_a(src: &[u8], toks: &[u32], tree: &mut [u32], left: u32, s: State) -> Pa
         let inner = rule_c(src, toks, tree, left, st);
         match inner {
             Parsed::Node(n, after) => {
-                let made = levels::joined(toks, tree, before, n, after);
+                let made = levels::join(toks, tree, before, n, after);
                 let l = made.0;
                 let done = made.1;
                 let behind = levels::look(src, toks, Level::And, done);
@@ -238,14 +238,14 @@ fn rule_c(src: &[u8], toks: &[u32], tree: &mut [u32], left: u32, s: State) -> Pa
         let inner = rule_s(src, toks, tree, left, st);
         match inner {
             Parsed::Node(n, after) => {
-                let made = levels::compared(toks, tree, before, n, after);
+                let made = levels::compare(toks, tree, before, n, after);
                 let l = made.0;
                 let done = made.1;
                 let behind = levels::look(src, toks, Level::Comparison, done);
                 match behind {
                     Behind::Operand(on) => {
                         let op = done.at;
-                        before = levels::linked(before, op, l, n);
+                        before = levels::lengthen(before, op, l, n);
                         st = on;
                     }
                     Behind::Nothing => return Parsed::Node(l, done),
@@ -277,7 +277,7 @@ fn rule_s(src: &[u8], toks: &[u32], tree: &mut [u32], left: u32, s: State) -> Pa
         let inner = rule_p(src, toks, tree, left, st);
         match inner {
             Parsed::Node(n, after) => {
-                let made = levels::joined(toks, tree, before, n, after);
+                let made = levels::join(toks, tree, before, n, after);
                 let l = made.0;
                 let done = made.1;
                 let behind = levels::look(src, toks, Level::Sum, done);
@@ -316,7 +316,7 @@ fn rule_p(src: &[u8], toks: &[u32], tree: &mut [u32], left: u32, s: State) -> Pa
         let inner = rule_u(src, toks, tree, left, st);
         match inner {
             Parsed::Node(n, after) => {
-                let made = levels::joined(toks, tree, before, n, after);
+                let made = levels::join(toks, tree, before, n, after);
                 let l = made.0;
                 let done = made.1;
                 let behind = levels::look(src, toks, Level::Product, done);

@@ -27,7 +27,7 @@ use Rattle.joint.proofs.Ends.{tok-mark, compared-last}
 use Rattle.levels.specs.declared.Level.the-variants as level
 use Rattle.levels.specs.declared.Chain.{Chain}
 use Rattle.levels.specs.declared.Chain.the-variants as links
-use Rattle.levels.specs.Levels.{link, Hung, Chains, Compared}
+use Rattle.levels.specs.Levels.{lengthened, Hung, Chains, Compared}
 use Rattle.levels.proofs.Operands.{Joint, Goes, goes-alone}
 
 -- a further comparison; all of these; and the first one with these, behind an operand
@@ -60,7 +60,7 @@ hung-further {s} {op} {l} {x} h k p = record {
   further = λ o₁ l₁ x₁ e. let a : op ≡ o₁ = cc in let b : l ≡ l₁ = cc in let d : x ≡ x₁ = cc in rw (← a, ← b, ← d) (h, k, p);
 }
 
-pub hung-next : (b : Chain) {op : TokenNumber} {m n : NodeNumber} {s : State} → op .0 < s .at .0 → m .0 < s .nodes → n .0 < s .nodes → Hung (link b op m n) s
+pub hung-next : (b : Chain) {op : TokenNumber} {m n : NodeNumber} {s : State} → op .0 < s .at .0 → m .0 < s .nodes → n .0 < s .nodes → Hung (lengthened b op m n) s
 hung-next links.Nothing h k p = hung-first h k
 hung-next (links.First o l) h k p = hung-further h k p
 hung-next (links.Further o l x) h k p = hung-further h k p
@@ -100,7 +100,7 @@ module _ {src toks : List ℕ} {room : ℕ} {s : State} {tr : List ℕ} {vs : Li
   compares-end (links.Further o l x) m n h f u = many-end low-further h f (compared-last u)
 
   pub compares-turn : (b : Chain) (m n : NodeNumber) {a : Parsed} {t : List ℕ} → s .at .0 ≤ eofAt toks → mem (symbolAt src toks (s .at .0)) comparisons ≡ true →
-      Comes src toks room (call S ⨾ rest (link b (s .at) m n)) a-node vs (hand (link b (s .at) m n) ++ vs) (past s) tr a t → Comes src toks room (behind b) a-node vs (value b (m .0) (n .0) ∷ vs) s tr a t
+      Comes src toks room (call S ⨾ rest (lengthened b (s .at) m n)) a-node vs (hand (lengthened b (s .at) m n) ++ vs) (past s) tr a t → Comes src toks room (behind b) a-node vs (value b (m .0) (n .0) ∷ vs) s tr a t
   unfolding first begins null
   compares-turn links.Nothing m n h f c = or-first h f (tok-mark h f c)
   compares-turn (links.First o l) m n h f c = many-on low-further h f (tok-mark h f c)
@@ -116,7 +116,7 @@ comparing = record {
   behind = behind;
   hand = hand;
   value = value;
-  next = link;
+  next = lengthened;
   begun = hung-none;
   later = hung-later;
   hung = hung-next;

@@ -10,14 +10,18 @@ use Rattle.pyhyeon.specs.Machine.{token, node, chain}
 use Rattle.pyhyeon.specs.Action.{binary, compare, compare-more}
 use Rattle.leaves.specs.declared.State.{State}
 use Rattle.leaves.specs.declared.Added.{Added}
-use Rattle.leaves.specs.Contract.{added, Writes, Joins}
+use Rattle.leaves.specs.Contract.{added, Spot, Writes, Joins}
 use Rattle.leaves.proofs.Frames.{frame-then}
 use Rattle.joint.proofs.Ends.{compare-is, compare-more-is}
 use Rattle.levels.specs.declared.Before.the-variants as before
 use Rattle.levels.specs.declared.Chain.the-variants as links
 use Rattle.levels.specs.Levels.{Joined, Chains, Compared}
 
--- Joined to nothing, and by an operator.
+-- where there is room for a second node, there is for the first
+pub spot-less : {toks tr : List ℕ} {s : State} → Spot toks tr (added s) → Spot toks tr s
+spot-less p = record { some = p .some; token = p .token; last = p .last; word = omega (arith, p .word); count = omega (arith, p .count) }
+
+-- joined to nothing, and by an operator
 pub joined-none : {src toks : List ℕ} {n : NodeNumber} {s : State} {tr : List ℕ} → Joined src toks before.Nothing n s tr (record { 0 = n; 1 = s }) tr
 joined-none = record { alone = λ e. (refl, refl); both = λ o l e. let z : _≡_ {A = ℕ} 0 1 = cc in absurd (omega arith) }
 

@@ -45,10 +45,10 @@ pub record Joined (src toks : List ℕ) (b : Before) (n : NodeNumber) (s : State
   pub both : (op : TokenNumber) (l : NodeNumber) → b ≡ before.Operator op l → Writes src toks binary (node (n .0) ∷ token (op .0) ∷ node (l .0) ∷ []) s tr r tr′
 
 -- what stands before the operand behind the operator op, where l is the node of all before that and n the operand right before it
-abbrev pub link : Chain → TokenNumber → NodeNumber → NodeNumber → Chain
-link links.Nothing op l n = links.First op l
-link (links.First o k) op l n = links.Further op l n
-link (links.Further o k x) op l n = links.Further op l n
+abbrev pub lengthened : Chain → TokenNumber → NodeNumber → NodeNumber → Chain
+lengthened links.Nothing op l n = links.First op l
+lengthened (links.First o k) op l n = links.Further op l n
+lengthened (links.Further o k x) op l n = links.Further op l n
 
 -- the operator and the nodes of a chain lie before the state
 pub record Hung (b : Chain) (s : State) : Type 0 where

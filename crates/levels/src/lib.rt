@@ -6,7 +6,7 @@ ghost use Prim.Native.Nat.{ℕ, _≤_};
 ghost use Rattle.grammar.specs.Sets.{mem};
 ghost use Rattle.lookahead.specs.Tokens.{eofAt, Tokens};
 ghost use Rattle.leaves.specs.Contract.{added, Spot};
-ghost use Rattle.levels.specs.Levels.{operators, Held, Joined, link, Hung, Compared, Stands};
+ghost use Rattle.levels.specs.Levels.{operators, Held, Joined, lengthened, Hung, Compared, Stands};
 use leaves::Added;
 use leaves::State;
 use token::NodeNumber;
@@ -57,7 +57,7 @@ fn is_operator(level: Level, symbol: u32) -> bool
 }
 
 // The operand n joined to what stands before it: a Binary where that is an operator, else the operand alone.
-pub fn joined(toks: &[u32], tree: &mut [u32], before: Before, n: NodeNumber, s: State) -> Added
+pub fn join(toks: &[u32], tree: &mut [u32], before: Before, n: NodeNumber, s: State) -> Added
     requires { ⌜ Spot (now toks) (now tree) s ⌝ }
     requires { ⌜ Held before s ⌝ }
     ensures { λ r. ⌜ ((src : List ℕ) → Joined src (now (toks .entry)) before n s (now (tree .entry)) r (now (tree .exit))) ⌝ }
@@ -69,8 +69,8 @@ pub fn joined(toks: &[u32], tree: &mut [u32], before: Before, n: NodeNumber, s: 
 }
 
 // The operand n compared with what stands before it: `a<b<c` is And(a<b, b<c), whose b is one node.
-pub fn compared(toks: &[u32], tree: &mut [u32], before: Chain, n: NodeNumber, s: State) -> Added
-    requires { ⌜ Spot (now toks) (now tree) s × Spot (now toks) (now tree) (added s) ⌝ }
+pub fn compare(toks: &[u32], tree: &mut [u32], before: Chain, n: NodeNumber, s: State) -> Added
+    requires { ⌜ Spot (now toks) (now tree) (added s) ⌝ }
     requires { ⌜ Hung before s ⌝ }
     ensures { λ r. ⌜ ((src : List ℕ) → Compared src (now (toks .entry)) before n s (now (tree .entry)) r (now (tree .exit))) ⌝ }
 {
@@ -87,8 +87,8 @@ pub fn compared(toks: &[u32], tree: &mut [u32], before: Chain, n: NodeNumber, s:
 }
 
 // What stands before the next operand, behind the operator `op`: l is the node of all before that, and n the operand right before it.
-pub fn linked(before: Chain, op: TokenNumber, l: NodeNumber, n: NodeNumber) -> Chain
-    ensures { λ r. ⌜ r ≡ link before op l n ⌝ }
+pub fn lengthen(before: Chain, op: TokenNumber, l: NodeNumber, n: NodeNumber) -> Chain
+    ensures { λ r. ⌜ r ≡ lengthened before op l n ⌝ }
 {
     match before {
         Chain::Nothing => Chain::First(op, l),
@@ -105,14 +105,8 @@ pub fn look(src: &[u8], toks: &[u32], level: Level, s: State) -> Behind
 {
     let op = s.at;
     if is_operator(level, lookahead::symbol_at(src, toks, op)) {
-        let t = op.0 + 1;
-        let next = TokenNumber(t);
-        let on = State {
-            at: next,
-            nodes: s.nodes,
-            opened: s.opened,
-            used: s.used,
-        };
+        let on = leaves::past(s);
+        let next = on.at;
         if lookahead::begins_u(lookahead::symbol_at(src, toks, next)) {
             Behind::Operand(on)
         } else {

@@ -1,7 +1,7 @@
 -- `expr::rule_c`, a member of the cycle.
 -- Assumes nothing.
 use Rattle.levels.specs.declared.Chain.{Chain}
-use Rattle.levels.proofs.Operands.{Joint, Reading, Operand, Turn, reading-starts, reading-stops, operand-read, operand-spot, operand-next, operand-held, turn-long, turn-here, turn-ends, turn-misses, turn-less, turn-goes}
+use Rattle.levels.proofs.Operands.{Joint, Reading, Operand, Turn, reading-starts, reading-stops, operand-read, operand-next, operand-held, turn-long, turn-here, turn-ends, turn-misses, turn-less, turn-goes}
 use Rattle.levels.proofs.Comparing.{comparing, goes}
 use Rattle.joint.proofs.Chain.{open-plain}
 use Rattle.joint.proofs.Loops.{ready-of}
@@ -15,13 +15,13 @@ use Prim.Native.Nat.{ℕ, _-_}
 use Rattle.expr.proofs.+args+body+brace+braces+enter+head+index+item+items+lambda+listed+member+pairs+paren+post+posts+rest+round+rule_a+rule_c+rule_e+rule_f+rule_o+rule_p+rule_s+rule_u+shown+tee+value.Lts-rule_c as lts
 use Rattle.expr.proofs.rule_c.Reads as reads
 use Rattle.expr.proofs.rule_s.Reads as rule-s
-use Rattle.levels.proofs.compared.Reads as compared-reads
+use Rattle.levels.proofs.compare.Reads as compare-reads
 use Rattle.levels.proofs.look.Reads as look-reads
-use Rattle.levels.proofs.linked.Reads as linked-reads
+use Rattle.levels.proofs.lengthen.Reads as lengthen-reads
 use Rattle.expr.proofs.+args+body+brace+braces+enter+head+index+item+items+lambda+listed+member+pairs+paren+post+posts+rest+round+rule_a+rule_c+rule_e+rule_f+rule_o+rule_p+rule_s+rule_u+shown+tee+value.Proof.Start.{rule-c-at, rule-s-below}
 
 abbrev calls : ℕ → lts.Claims
-calls t = (rule-s-below t, rule-s.Post, compared-reads.Asked, compared-reads.Learnt, look-reads.Asked, look-reads.Learnt, linked-reads.Asked, linked-reads.Learnt)
+calls t = (rule-s-below t, rule-s.Post, compare-reads.Asked, compare-reads.Learnt, look-reads.Asked, look-reads.Learnt, lengthen-reads.Asked, lengthen-reads.Learnt)
 
 abbrev g : Joint Chain
 g = comparing
@@ -39,8 +39,8 @@ module _ (t : ℕ) where
       let at-rule-s = c .before .before .before .before in
       operand-read (at-rule-s .before .before .loop .inv) (at-rule-s .rule-s .ensures) (c .inner .given .1) (at-rule-s .rule-s .kept .1 .1 .0)
 
-  abbrev turn : lts.After-compared (calls t) (rule-c-at t) reads.Post Inv-loop μ-loop → Turn g
-  turn c = record { of = operand (c .before .before .before); made = _; tr₂ = _; goes = goes _ (c .compared .ensures _); length = c .compared .kept .1 .0 }
+  abbrev turn : lts.After-compare (calls t) (rule-c-at t) reads.Post Inv-loop μ-loop → Turn g
+  turn c = record { of = operand (c .before .before .before); made = _; tr₂ = _; goes = goes _ (c .compare .ensures _); length = c .compare .kept .1 .0 }
 
   add-opened : lts.Need-add-opened (calls t) (rule-c-at t) reads.Post Inv-loop μ-loop
   add-opened c = omega arith
@@ -63,10 +63,10 @@ module _ (t : ℕ) where
   enum-known-inner : lts.Need-enum-known-inner (calls t) (rule-c-at t) reads.Post Inv-loop μ-loop
   enum-known-inner c = search needs
 
-  compared-requires : lts.Need-compared-requires (calls t) (rule-c-at t) reads.Post Inv-loop μ-loop
-  compared-requires c κs =
+  compare-requires : lts.Need-compare-requires (calls t) (rule-c-at t) reads.Post Inv-loop μ-loop
+  compare-requires c κs =
       let w = operand (c .before .before) in
-      ((operand-spot w, operand-next w), operand-held w)
+      (operand-next w, operand-held w)
 
   look-requires : lts.Need-look-requires (calls t) (rule-c-at t) reads.Post Inv-loop μ-loop
   look-requires c κs =
@@ -76,8 +76,8 @@ module _ (t : ℕ) where
   enum-known-behind : lts.Need-enum-known-behind (calls t) (rule-c-at t) reads.Post Inv-loop μ-loop
   enum-known-behind c = search needs
 
-  linked-requires : lts.Need-linked-requires (calls t) (rule-c-at t) reads.Post Inv-loop μ-loop
-  linked-requires c κs = search needs
+  lengthen-requires : lts.Need-lengthen-requires (calls t) (rule-c-at t) reads.Post Inv-loop μ-loop
+  lengthen-requires c κs = search needs
 
   loop-less : lts.Need-loop-less (calls t) (rule-c-at t) reads.Post Inv-loop μ-loop
   loop-less c =
@@ -92,7 +92,7 @@ module _ (t : ℕ) where
       let at-behind = c .before .before .before in
       let at-look = at-behind .before .before in
       let s = at-look .look .ensures .operand _ (at-behind .behind .given .1) in
-      rw (c .linked .ensures) (turn-goes (turn (at-look .before .before .before .before .before)) (s .0) (s .1) (s .2))
+      rw (c .lengthen .ensures) (turn-goes (turn (at-look .before .before .before .before .before)) (s .0) (s .1) (s .2))
 
   enum-told : lts.Need-enum-told (calls t) (rule-c-at t) reads.Post Inv-loop μ-loop
   enum-told c = search needs
@@ -136,4 +136,4 @@ module _ (t : ℕ) where
       open-plain refl (λ vs. reading-stops (at-rule-s .before .before .loop .inv) (at-rule-s .rule-s .ensures) (at-inner2 .inner2 .given .1) vs)
 
   pub meets : {M : Type 1} → lts.Closed (calls t) (rule-c-at t) reads.Post M
-  meets = lts.spec (calls t) (rule-c-at t) reads.Post Inv-loop μ-loop add-opened loop-holds rule-s-requires enum-known-inner compared-requires look-requires enum-known-behind linked-requires loop-less loop-again enum-told same-length returns enum-known-behind-2 same-length-2 returns-2 enum-known-inner-2 same-length-3 returns-3
+  meets = lts.spec (calls t) (rule-c-at t) reads.Post Inv-loop μ-loop add-opened loop-holds rule-s-requires enum-known-inner compare-requires look-requires enum-known-behind lengthen-requires loop-less loop-again enum-told same-length returns enum-known-behind-2 same-length-2 returns-2 enum-known-inner-2 same-length-3 returns-3

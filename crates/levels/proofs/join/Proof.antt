@@ -1,9 +1,9 @@
--- `levels::joined` meets its contract: by what stands before the operand, nothing, or the leaf of a Binary.
+-- `levels::join` meets its contract: by what stands before the operand, nothing, or the leaf of a Binary.
 -- Assumes nothing.
 use borrow.Author.Needs.{needs}
 use Rattle.levels.proofs.Joining.{joined-none, joined-one}
-use Rattle.levels.proofs.joined.Statement.{statement}
-use Rattle.levels.proofs.joined.Tie as tie
+use Rattle.levels.proofs.join.Statement.{statement}
+use Rattle.levels.proofs.join.Tie as tie
 
 enum-told : tie.Need-enum-told
 enum-told c = search needs
@@ -30,5 +30,5 @@ returns-2 c =
     let at-before2 = at-put-binary .before .before .before in
     λ src. rw (at-before2 .before2 .given .1) (joined-one (at-put-binary .put-binary .ensures src))
 
-pub joined-spec : {M : Type 1} → statement M
-joined-spec = tie.close (tie.spec enum-told enum-known-before put-binary-requires returns same-length returns-2)
+pub join-spec : {M : Type 1} → statement M
+join-spec = tie.close (tie.spec enum-told enum-known-before put-binary-requires returns same-length returns-2)

@@ -1,9 +1,9 @@
--- `levels::linked` meets its contract, by what stands before.
+-- `levels::lengthen` meets its contract, by what stands before.
 -- Assumes nothing.
 use mathlib.Core.Path.{refl}
 use borrow.Author.Needs.{needs}
-use Rattle.levels.proofs.linked.Statement.{statement}
-use Rattle.levels.proofs.linked.Tie as tie
+use Rattle.levels.proofs.lengthen.Statement.{statement}
+use Rattle.levels.proofs.lengthen.Tie as tie
 
 enum-told : tie.Need-enum-told
 enum-told c = search needs
@@ -23,5 +23,5 @@ returns-2 c = rw (c .enum-told2 .given .1) refl
 returns-3 : tie.Need-returns-3
 returns-3 c = rw (c .enum-told3 .given .1) refl
 
-pub linked-spec : {M : Type 1} → statement M
-linked-spec = tie.close (tie.spec enum-told enum-told-2 enum-told-3 returns returns-2 returns-3)
+pub lengthen-spec : {M : Type 1} → statement M
+lengthen-spec = tie.close (tie.spec enum-told enum-told-2 enum-told-3 returns returns-2 returns-3)
