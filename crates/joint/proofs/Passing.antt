@@ -10,22 +10,22 @@ use Rattle.grammar.specs.Descent.{null, begins}
 use Rattle.grammar.specs.Check.{low, takes}
 use Rattle.grammar.specs.Sets.{mem}
 use mathlib.Core.Bool.{false}
-use Rattle.token.specs.Code.{Not, Minus, Plus, Newline, String, Eof}
+use Rattle.token.specs.Code.{Newline, String, Eof}
 use Rattle.pyhyeon.specs.Machine.{Value, signs, number, count}
 use Rattle.pyhyeon.specs.Action.{Action, signs-more, perform}
-use Rattle.pyhyeon.specs.Rules.{Rule, newlines}
+use Rattle.pyhyeon.specs.Rules.{Rule, newlines, signSet}
 use Rattle.pyhyeon.specs.Tables.{pyhyeon}
 use Rattle.leaves.specs.declared.State.{State}
 use Rattle.leaves.specs.declared.Parsed.{Parsed}
 use Rattle.lookahead.specs.Tokens.{eofAt, textBefore, Tokens}
 use Rattle.leaves.specs.Contract.{Shape, Comes}
-use Rattle.lookahead.specs.Run.{Run, signSet}
+use Rattle.lookahead.specs.Run.{Run}
 use Rattle.leaves.proofs.Frames.{frame-none}
 use Rattle.lookahead.proofs.Tokens.{took}
 use Rattle.joint.proofs.Chain.{tok-then, act-then, many-on, many-end}
 
-abbrev pub sign : Part Action Rule
-sign = tok (Not ∷ Minus ∷ Plus ∷ []) ⨾ act signs-more
+abbrev sign : Part Action Rule
+sign = tok signSet ⨾ act signs-more
 
 newline-low : T (low pyhyeon 100 100 newlines)
 unfolding low takes

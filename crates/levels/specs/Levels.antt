@@ -5,12 +5,12 @@ use mathlib.Core.Path.{_≡_}
 use mathlib.Core.Bool.{true, false}
 use mathlib.Core.List.{List, [], _∷_, _++_}
 use Rattle.grammar.specs.Sets.{mem}
-use Rattle.token.specs.Code.{Or, And, Star, SlashSlash, Slash, Percent, Plus, Minus}
+use Rattle.token.specs.Code.{Or, And}
 use Rattle.token.specs.declared.TokenNumber.{TokenNumber}
 use Rattle.token.specs.declared.NodeNumber.{NodeNumber}
 use Rattle.pyhyeon.specs.Machine.{Value, token, node, chain}
 use Rattle.pyhyeon.specs.Action.{Action, binary, compare, compare-more, perform}
-use Rattle.pyhyeon.specs.Rules.{comparisons}
+use Rattle.pyhyeon.specs.Rules.{comparisons, sums, products}
 use Rattle.pyhyeon.specs.Tables.{firstU}
 use Rattle.leaves.specs.declared.State.{State}
 use Rattle.leaves.specs.declared.Added.{Added}
@@ -25,13 +25,13 @@ use Rattle.levels.specs.declared.Chain.the-variants as links
 use Rattle.levels.specs.declared.Behind.{Behind}
 use Rattle.levels.specs.declared.Behind.the-variants as behind
 
--- the operators of each level
+-- the operators of each level: "O: A by `or`. A: C by `and`. C: S by comparisons. S: P by + -. P: U by * // / %." (01, Grammar)
 abbrev pub operators : Level → List ℕ
 operators level.Or = Or ∷ []
 operators level.And = And ∷ []
 operators level.Comparison = comparisons
-operators level.Sum = Plus ∷ Minus ∷ []
-operators level.Product = Star ∷ SlashSlash ∷ Slash ∷ Percent ∷ []
+operators level.Sum = sums
+operators level.Product = products
 
 -- the operator and the node lie before the state
 pub record Held (b : Before) (s : State) : Type 0 where

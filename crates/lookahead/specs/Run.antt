@@ -3,9 +3,8 @@
 use Prim.Native.Nat.{ℕ, _≤_, _<_}
 use mathlib.Core.Path.{_≡_}
 use mathlib.Core.Bool.{true, false}
-use mathlib.Core.List.{List, [], _∷_}
+use mathlib.Core.List.{List}
 use Rattle.grammar.specs.Sets.{mem}
-use Rattle.token.specs.Code.{Not, Minus, Plus}
 use Rattle.lookahead.specs.Tokens.{eofAt, symbolAt}
 
 -- the tokens from t on, up to `end`, are in the set, and that one is not
@@ -14,7 +13,3 @@ pub record Run (src toks set : List ℕ) (t end : ℕ) : Type 0 where
   pub inside : end ≤ eofAt toks
   pub each : (k : ℕ) → t ≤ k → k < end → mem (symbolAt src toks k) set ≡ true
   pub stop : mem (symbolAt src toks end) set ≡ false
-
--- the signs of U
-abbrev pub signSet : List ℕ
-signSet = Not ∷ Minus ∷ Plus ∷ []

@@ -2,8 +2,8 @@
 ghost use mathlib.Core.Path.{_≡_};
 ghost use mathlib.Core.List.{[], _∷_};
 ghost use Rattle.grammar.specs.Sets.{mem};
-ghost use Rattle.token.specs.Code.{Not, Plus, Minus, Star, SlashSlash, Slash, Percent, LParen, LBracket, Dot};
-ghost use Rattle.pyhyeon.specs.Rules.{names, comparisons};
+ghost use Rattle.token.specs.Code.{LParen, LBracket, Dot};
+ghost use Rattle.pyhyeon.specs.Rules.{names, comparisons, sums, products, signSet};
 ghost use Rattle.pyhyeon.specs.Tables.{firstF, firstU, firstE, firstSimple, firstLine};
 
 pub fn is_symbol(symbol: u32, c: u32) -> bool
@@ -115,7 +115,7 @@ pub fn is_name(symbol: u32) -> bool
 }
 
 pub fn is_sign(symbol: u32) -> bool
-    ensures { λ r. ⌜ r ≡ mem symbol (Not ∷ Minus ∷ Plus ∷ []) ⌝ }
+    ensures { λ r. ⌜ r ≡ mem symbol signSet ⌝ }
 {
     match symbol {
         token::NOT => true,
@@ -126,7 +126,7 @@ pub fn is_sign(symbol: u32) -> bool
 }
 
 pub fn is_add(symbol: u32) -> bool
-    ensures { λ r. ⌜ r ≡ mem symbol (Plus ∷ Minus ∷ []) ⌝ }
+    ensures { λ r. ⌜ r ≡ mem symbol sums ⌝ }
 {
     match symbol {
         token::PLUS => true,
@@ -136,7 +136,7 @@ pub fn is_add(symbol: u32) -> bool
 }
 
 pub fn is_multiply(symbol: u32) -> bool
-    ensures { λ r. ⌜ r ≡ mem symbol (Star ∷ SlashSlash ∷ Slash ∷ Percent ∷ []) ⌝ }
+    ensures { λ r. ⌜ r ≡ mem symbol products ⌝ }
 {
     match symbol {
         token::STAR => true,

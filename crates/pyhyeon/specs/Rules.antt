@@ -103,8 +103,18 @@ compound =
 abbrev pub level : Rule → List ℕ → Part Action Rule
 level r ops = call r ⨾ many (tok ops ⨾ act mark ⨾ call r ⨾ act binary)
 
+-- the operators of C, S and P, and the signs of U
 abbrev pub comparisons : List ℕ
 comparisons = Less ∷ LessEqual ∷ Greater ∷ GreaterEqual ∷ EqualEqual ∷ NotEqual ∷ []
+
+abbrev pub sums : List ℕ
+sums = Plus ∷ Minus ∷ []
+
+abbrev pub products : List ℕ
+products = Star ∷ SlashSlash ∷ Slash ∷ Percent ∷ []
+
+abbrev pub signSet : List ℕ
+signSet = Not ∷ Minus ∷ Plus ∷ []
 
 abbrev pub literals : List ℕ
 literals = Int ∷ Bool ∷ String ∷ Float ∷ None ∷ []
@@ -145,9 +155,9 @@ plain A = level C (And ∷ [])
 plain C =
     call S
     ⨾ (tok comparisons ⨾ act mark ⨾ call S ⨾ act compare ⨾ many (tok comparisons ⨾ act mark ⨾ call S ⨾ act compare-more) ⨾ act compared ∕ skip)
-plain S = level P (Plus ∷ Minus ∷ [])
-plain P = level U (Star ∷ SlashSlash ∷ Slash ∷ Percent ∷ [])
-plain U = act signs-none ⨾ many (tok (Not ∷ Minus ∷ Plus ∷ []) ⨾ act signs-more) ⨾ call F ⨾ act unary
+plain S = level P sums
+plain P = level U products
+plain U = act signs-none ⨾ many (tok signSet ⨾ act signs-more) ⨾ call F ⨾ act unary
 -- "F: literal; [list]; t{list}; {} as Dict, {pairs}, {list}; parentheses; name; then .name (list) [E] repeated."
 plain F =
     (tok literals ⨾ act literal

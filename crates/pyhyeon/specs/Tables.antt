@@ -6,14 +6,13 @@ use mathlib.Core.Bool.{Bool, true, false}
 use mathlib.Core.List.{List, [], _∷_, _++_}
 use Rattle.grammar.specs.Grammar.{Part, skip, act, tok, see, call, _⨾_, _∕_, many, tail}
 use Rattle.grammar.specs.Descent.{Plan}
-use Rattle.token.specs.Code.{If, Elif, Else, While, For, Def, Return, And, Or, Not, Break, Continue, Pass, Lambda, Identifier}
-use Rattle.token.specs.Code.{Plus, Minus, Star, SlashSlash, Slash, Percent, Equal}
-use Rattle.token.specs.Code.{LParen, RParen, LBracket, RBracket, LBrace, RBrace, Colon, Comma, Semicolon, Indent, Dedent, Newline, Eof}
+use Rattle.token.specs.Code.{If, Elif, Else, While, For, Def, Return, And, Or, Break, Continue, Pass, Lambda, Identifier}
+use Rattle.token.specs.Code.{LParen, RParen, LBracket, RBracket, LBrace, RBrace, Equal, Colon, Comma, Semicolon, Indent, Dedent, Newline, Eof}
 use Rattle.token.specs.Code as token
 use Rattle.pyhyeon.specs.Symbol.{Tee}
 use Rattle.ast.specs.Kind as kind
 use Rattle.pyhyeon.specs.Action.{Action, mark, literal, named, alone, list-none, list-one, list-join, list-done, enclose, empty, group, tuple, pair, expr, assign, return, program}
-use Rattle.pyhyeon.specs.Rules.{Rule, Program, Line, Simple, Block, Class, E, O, A, C, S, P, U, F, tk, more, list, entry, rest, simples, newlines, comparisons, literals, postfix, plain}
+use Rattle.pyhyeon.specs.Rules.{Rule, Program, Line, Simple, Block, Class, E, O, A, C, S, P, U, F, tk, more, list, entry, rest, simples, newlines, comparisons, sums, products, signSet, literals, postfix, plain}
 
 -- Alternatives that begin alike are taken together up to where they differ, and Newlines between two Lines are taken after the first. So Program,
 -- Simple, Block and F differ from `plain`.
@@ -77,7 +76,7 @@ abbrev pub firstF : List ℕ
 firstF = literals ++ LBracket ∷ Tee ∷ LBrace ∷ LParen ∷ Identifier ∷ []
 
 abbrev pub firstU : List ℕ
-firstU = Not ∷ Minus ∷ Plus ∷ firstF
+firstU = signSet ++ firstF
 
 abbrev pub firstE : List ℕ
 firstE = Lambda ∷ firstU
@@ -116,7 +115,7 @@ abbrev afterS : List ℕ
 afterS = And ∷ Or ∷ comparisons ++ afterE
 
 abbrev afterU : List ℕ
-afterU = Star ∷ SlashSlash ∷ Slash ∷ Percent ∷ Plus ∷ Minus ∷ afterS
+afterU = products ++ sums ++ afterS
 
 unfoldable pub follow : Rule → List ℕ
 follow Program = Eof ∷ []
@@ -129,7 +128,7 @@ follow O = afterE
 follow A = Or ∷ afterE
 follow C = And ∷ Or ∷ afterE
 follow S = afterS
-follow P = Plus ∷ Minus ∷ afterS
+follow P = sums ++ afterS
 follow U = afterU
 follow F = afterU
 

@@ -4,7 +4,7 @@ use mathlib.Core.Path.{sym}
 use borrow.Author.Needs.{needs}
 use Rattle.pyhyeon.specs.Tables.{firstF}
 use Rattle.lookahead.specs.Tokens.{symbolAt}
-use Rattle.lookahead.specs.Run.{signSet}
+use Rattle.pyhyeon.specs.Rules.{signSet}
 use Rattle.lookahead.proofs.Tests.{of-second}
 use Rattle.lookahead.proofs.skip.behind_signs.Statement.{statement}
 use Rattle.lookahead.proofs.skip.behind_signs.Tie as tie

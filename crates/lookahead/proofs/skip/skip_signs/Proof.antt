@@ -5,7 +5,7 @@ use mathlib.Core.Path.{refl}
 use Prim.Native.Nat.{_-_, _<_}
 use native.Mathlib.Omega.{arith}
 use borrow.Author.Needs.{needs}
-use Rattle.lookahead.specs.Run.{signSet}
+use Rattle.pyhyeon.specs.Rules.{signSet}
 use Rattle.lookahead.specs.Tokens.{eofAt}
 use Rattle.lookahead.proofs.Tests.{learnt}
 use Rattle.lookahead.proofs.Tokens.{before-eof}
