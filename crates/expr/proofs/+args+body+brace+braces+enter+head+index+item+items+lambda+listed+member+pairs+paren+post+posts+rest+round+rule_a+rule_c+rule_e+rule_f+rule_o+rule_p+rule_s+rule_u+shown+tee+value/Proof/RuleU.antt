@@ -1,14 +1,13 @@
 -- `expr::rule_u`, a member of the cycle.
 -- Assumes nothing.
 use Rattle.joint.proofs.Passing.{signs-pass, run-text}
-use Rattle.lookahead.specs.Run.{signSet}
 use Rattle.joint.proofs.Loops.{ready-of}
 use Rattle.joint.proofs.Ends.{act-wrapped, signs-then}
 use Rattle.joint.proofs.Chain.{called, not-called, part-then, part-stop, open-plain}
 use Rattle.joint.proofs.Bounds.{after-rule, spares-f}
 use Rattle.lookahead.proofs.Tokens.{before-eof}
 use Rattle.pyhyeon.specs.Tables.{joined, first, firstF, rank, opens}
-use Rattle.pyhyeon.specs.Rules.{plain}
+use Rattle.pyhyeon.specs.Rules.{signSet, plain}
 use mathlib.Core.Path.{refl, sym, _∙_}
 use borrow.Author.Needs.{needs}
 use native.Mathlib.Omega.{arith}
