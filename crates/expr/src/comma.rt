@@ -11,7 +11,6 @@ use crate::rule_e;
 use leaves::Parsed;
 use leaves::State;
 use token::NodeNumber;
-use token::TokenNumber;
 
 // t: E separated by commas. One E alone stays that E; more make a Tuple.
 pub fn comma_list(src: &[u8], toks: &[u32], tree: &mut [u32], left: u32, s: State) -> Parsed
@@ -23,14 +22,7 @@ pub fn comma_list(src: &[u8], toks: &[u32], tree: &mut [u32], left: u32, s: Stat
         Parsed::Node(n, after) => {
             let at = after.at;
             if lookahead::is_symbol(lookahead::symbol_at(src, toks, at), token::COMMA) {
-                let t = at.0 + 1;
-                let on = State {
-                    at: TokenNumber(t),
-                    nodes: after.nodes,
-                    opened: after.opened,
-                    used: after.used,
-                };
-                comma_rest(src, toks, tree, left, n, on)
+                comma_rest(src, toks, tree, left, n, leaves::past(after))
             } else {
                 Parsed::Node(n, after)
             }

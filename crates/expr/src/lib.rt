@@ -101,14 +101,7 @@ fn lambda(
     let after = heads.1;
     let colon = after.at;
     if lookahead::is_symbol(lookahead::symbol_at(src, toks, colon), token::COLON) {
-        let t = colon.0 + 1;
-        let on = State {
-            at: TokenNumber(t),
-            nodes: after.nodes,
-            opened: after.opened,
-            used: after.used,
-        };
-        body(src, toks, tree, left, opener, first, on)
+        body(src, toks, tree, left, opener, first, leaves::past(after))
     } else {
         Parsed::Refused(14, after)
     }
@@ -438,13 +431,6 @@ fn tee(
 {
     let at = s.at;
     if lookahead::is_symbol(lookahead::symbol_at(src, toks, at), token::LBRACE) {
-        let t = at.0 + 1;
-        let on = State {
-            at: TokenNumber(t),
-            nodes: s.nodes,
-            opened: s.opened,
-            used: s.used,
-        };
         shown(
             src,
             toks,
@@ -453,7 +439,7 @@ fn tee(
             opener,
             token::RBRACE,
             ast::TREE_SET,
-            on,
+            leaves::past(s),
         )
     } else {
         let made = expr_leaves::put_named(toks, tree, ast::VARIABLE, s);
@@ -513,14 +499,7 @@ fn shut(
 {
     let at = s.at;
     if lookahead::is_symbol(lookahead::symbol_at(src, toks, at), close) {
-        let t = at.0 + 1;
-        let on = State {
-            at: TokenNumber(t),
-            nodes: s.nodes,
-            opened: s.opened,
-            used: s.used,
-        };
-        let made = expr_leaves::put_enclosed(toks, tree, kind, opener, first, on);
+        let made = expr_leaves::put_enclosed(toks, tree, kind, opener, first, leaves::past(s));
         let n = made.0;
         let after = made.1;
         Parsed::Node(n, after)
@@ -572,14 +551,8 @@ fn rest(
     loop {
         let at = st.at;
         if lookahead::is_symbol(lookahead::symbol_at(src, toks, at), token::COMMA) {
-            let t = at.0 + 1;
-            let next = TokenNumber(t);
-            let on = State {
-                at: next,
-                nodes: st.nodes,
-                opened: st.opened,
-                used: st.used,
-            };
+            let on = leaves::past(st);
+            let next = on.at;
             if lookahead::begins_e(lookahead::symbol_at(src, toks, next)) {
                 let inner = member(src, toks, tree, left, paired, on);
                 match inner {
@@ -614,14 +587,7 @@ fn braces(
 {
     let at = s.at;
     if lookahead::is_symbol(lookahead::symbol_at(src, toks, at), token::RBRACE) {
-        let t = at.0 + 1;
-        let on = State {
-            at: TokenNumber(t),
-            nodes: s.nodes,
-            opened: s.opened,
-            used: s.used,
-        };
-        let made = expr_leaves::put_empty(toks, tree, ast::DICT, opener, on);
+        let made = expr_leaves::put_empty(toks, tree, ast::DICT, opener, leaves::past(s));
         let n = made.0;
         let after = made.1;
         Parsed::Node(n, after)
@@ -650,14 +616,7 @@ fn brace(
 {
     let at = s.at;
     if lookahead::is_symbol(lookahead::symbol_at(src, toks, at), token::COLON) {
-        let t = at.0 + 1;
-        let on = State {
-            at: TokenNumber(t),
-            nodes: s.nodes,
-            opened: s.opened,
-            used: s.used,
-        };
-        pairs(src, toks, tree, left, opener, first, on)
+        pairs(src, toks, tree, left, opener, first, leaves::past(s))
     } else {
         listed(
             src,
@@ -762,14 +721,7 @@ fn item(src: &[u8], toks: &[u32], tree: &mut [u32], left: u32, s: State) -> Pars
         Parsed::Node(key, after) => {
             let colon = after.at;
             if lookahead::is_symbol(lookahead::symbol_at(src, toks, colon), token::COLON) {
-                let t = colon.0 + 1;
-                let on = State {
-                    at: TokenNumber(t),
-                    nodes: after.nodes,
-                    opened: after.opened,
-                    used: after.used,
-                };
-                value(src, toks, tree, left, key, on)
+                value(src, toks, tree, left, key, leaves::past(after))
             } else {
                 Parsed::Refused(14, after)
             }
@@ -812,14 +764,7 @@ fn round(
             Parsed::Refused(code, after) => Parsed::Refused(code, after),
         }
     } else if lookahead::is_symbol(lookahead::symbol_at(src, toks, at), token::RPAREN) {
-        let t = at.0 + 1;
-        let on = State {
-            at: TokenNumber(t),
-            nodes: s.nodes,
-            opened: s.opened,
-            used: s.used,
-        };
-        unit(src, toks, tree, left, opener, on)
+        unit(src, toks, tree, left, opener, leaves::past(s))
     } else {
         Parsed::Refused(14, s)
     }
@@ -840,14 +785,7 @@ fn unit(
 {
     let at = s.at;
     if lookahead::is_symbol(lookahead::symbol_at(src, toks, at), token::RPAREN) {
-        let t = at.0 + 1;
-        let on = State {
-            at: TokenNumber(t),
-            nodes: s.nodes,
-            opened: s.opened,
-            used: s.used,
-        };
-        let made = expr_leaves::put_empty(toks, tree, ast::TUPLE, opener, on);
+        let made = expr_leaves::put_empty(toks, tree, ast::TUPLE, opener, leaves::past(s));
         let n = made.0;
         let after = made.1;
         Parsed::Node(n, after)
@@ -873,13 +811,7 @@ fn paren(
     let at = s.at;
     let symbol = lookahead::symbol_at(src, toks, at);
     if lookahead::is_symbol(symbol, token::RPAREN) {
-        let t = at.0 + 1;
-        let on = State {
-            at: TokenNumber(t),
-            nodes: s.nodes,
-            opened: s.opened,
-            used: s.used,
-        };
+        let on = leaves::past(s);
         leaves::widen(toks, tree, opener, first, on);
         Parsed::Node(first, on)
     } else if lookahead::is_symbol(symbol, token::COMMA) {
@@ -938,25 +870,12 @@ fn post(src: &[u8], toks: &[u32], tree: &mut [u32], left: u32, n: NodeNumber, s:
     ensures { λ r. ⌜ Parts (now (src .entry)) (now (toks .entry)) left postfix (node (n .0) ∷ []) a-node s (now (tree .entry)) r (now (tree .exit)) ⌝ }
 {
     let at = s.at;
-    let t = at.0 + 1;
-    let next = TokenNumber(t);
-    let on = State {
-        at: next,
-        nodes: s.nodes,
-        opened: s.opened,
-        used: s.used,
-    };
+    let on = leaves::past(s);
     match lookahead::symbol_at(src, toks, at) {
         token::DOT => {
+            let next = on.at;
             if lookahead::is_name(lookahead::symbol_at(src, toks, next)) {
-                let u = t + 1;
-                let past = State {
-                    at: TokenNumber(u),
-                    nodes: s.nodes,
-                    opened: s.opened,
-                    used: s.used,
-                };
-                let made = expr_leaves::put_attribute(toks, tree, n, past);
+                let made = expr_leaves::put_attribute(toks, tree, n, leaves::past(on));
                 let m = made.0;
                 let after = made.1;
                 Parsed::Node(m, after)
@@ -980,14 +899,7 @@ fn args(src: &[u8], toks: &[u32], tree: &mut [u32], left: u32, n: NodeNumber, s:
         Parsed::Node(first, after) => {
             let close = after.at;
             if lookahead::is_symbol(lookahead::symbol_at(src, toks, close), token::RPAREN) {
-                let t = close.0 + 1;
-                let on = State {
-                    at: TokenNumber(t),
-                    nodes: after.nodes,
-                    opened: after.opened,
-                    used: after.used,
-                };
-                let made = expr_leaves::put_apply(toks, tree, n, first, on);
+                let made = expr_leaves::put_apply(toks, tree, n, first, leaves::past(after));
                 let m = made.0;
                 let done = made.1;
                 Parsed::Node(m, done)
@@ -1010,14 +922,7 @@ fn index(src: &[u8], toks: &[u32], tree: &mut [u32], left: u32, n: NodeNumber, s
         Parsed::Node(i, after) => {
             let close = after.at;
             if lookahead::is_symbol(lookahead::symbol_at(src, toks, close), token::RBRACKET) {
-                let t = close.0 + 1;
-                let on = State {
-                    at: TokenNumber(t),
-                    nodes: after.nodes,
-                    opened: after.opened,
-                    used: after.used,
-                };
-                let made = expr_leaves::put_index(toks, tree, n, i, on);
+                let made = expr_leaves::put_index(toks, tree, n, i, leaves::past(after));
                 let m = made.0;
                 let done = made.1;
                 Parsed::Node(m, done)

@@ -12,7 +12,6 @@ ghost use Rattle.expr.specs.Parts.{name};
 use leaves::Added;
 use leaves::State;
 use token::NodeNumber;
-use token::TokenNumber;
 
 // A list of names, which may be empty.
 pub fn names(src: &[u8], toks: &[u32], tree: &mut [u32], s: State) -> Added
@@ -21,14 +20,7 @@ pub fn names(src: &[u8], toks: &[u32], tree: &mut [u32], s: State) -> Added
 {
     let at = s.at;
     if lookahead::is_name(lookahead::symbol_at(src, toks, at)) {
-        let t = at.0 + 1;
-        let on = State {
-            at: TokenNumber(t),
-            nodes: s.nodes,
-            opened: s.opened,
-            used: s.used,
-        };
-        let made = expr_leaves::put_named(toks, tree, ast::NAME, on);
+        let made = expr_leaves::put_named(toks, tree, ast::NAME, leaves::past(s));
         let first = made.0;
         let after = made.1;
         names_rest(src, toks, tree, first, after)
@@ -48,29 +40,16 @@ fn names_rest(src: &[u8], toks: &[u32], tree: &mut [u32], first: NodeNumber, s: 
     loop {
         let at = st.at;
         if lookahead::is_symbol(lookahead::symbol_at(src, toks, at), token::COMMA) {
-            let t = at.0 + 1;
-            let next = TokenNumber(t);
+            let on = leaves::past(st);
+            let next = on.at;
             if lookahead::is_name(lookahead::symbol_at(src, toks, next)) {
-                let u = t + 1;
-                let on = State {
-                    at: TokenNumber(u),
-                    nodes: st.nodes,
-                    opened: st.opened,
-                    used: st.used,
-                };
-                let made = expr_leaves::put_named(toks, tree, ast::NAME, on);
+                let made = expr_leaves::put_named(toks, tree, ast::NAME, leaves::past(on));
                 let n = made.0;
                 let after = made.1;
                 leaves::link(tree, last, n, after);
                 last = n;
                 st = after;
             } else {
-                let on = State {
-                    at: next,
-                    nodes: st.nodes,
-                    opened: st.opened,
-                    used: st.used,
-                };
                 return Added(first, on);
             }
         } else {

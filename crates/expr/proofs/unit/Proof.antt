@@ -1,38 +1,32 @@
 -- `expr::unit` meets its contract: the empty Tuple.
 -- Assumes nothing.
-use Rattle.joint.proofs.Ends.{act-wrote}
-use Rattle.joint.proofs.Chain.{tok-then, tok-not}
-use Rattle.lookahead.proofs.Tokens.{took}
+use Rattle.expr.proofs.Tested.{met, met-wrote}
+use Rattle.joint.proofs.Chain.{tok-not}
 use Rattle.lookahead.proofs.Tests.{learnt}
 use Rattle.token.specs.Code as code
 use mathlib.Core.List.{[], _∷_}
-use mathlib.Core.Path.{refl, sym, _∙_}
+use mathlib.Core.Path.{refl}
 use native.Mathlib.Omega.{arith}
 use borrow.Author.Needs.{needs}
 use Rattle.expr.proofs.unit.Statement.{statement}
 use Rattle.expr.proofs.unit.Tie as tie
 
 symbol-at-requires : tie.Need-symbol-at-requires
-symbol-at-requires c κs =
-    let at-start = c .before .before .before .before in
-    (at-start .pre .0 .tokens, at-start .pre .0 .here)
+symbol-at-requires c κs = search needs
 
 is-symbol-requires : tie.Need-is-symbol-requires
 is-symbol-requires c κs = search needs
 
-add-t : tie.Need-add-t
-add-t c = omega arith
+past-requires : tie.Need-past-requires
+past-requires c κs = omega arith
 
 put-empty-requires : tie.Need-put-empty-requires
 put-empty-requires c κs =
     let at-if1 = c .before .before in
-    let at-is-symbol = at-if1 .before in
-    let at-symbol-at = at-is-symbol .before in
-    let at-start = at-symbol-at .before .before .before .before .before in
+    let at-start = at-if1 .before .before .before .before .before .before .before in
     let r = at-start .pre .0 in
-    let e = learnt (code.RParen ∷ []) (at-if1 .if1 .taken) (at-is-symbol .is-symbol .ensures) (at-symbol-at .symbol-at .ensures) in
-    let l = took (code.RParen ∷ []) refl refl (r .tokens) (r .here) e in
-    omega arith
+    let m = met (code.RParen ∷ []) refl refl (r .tokens) (r .here) (at-if1 .if1 .taken) (at-if1 .before .is-symbol .ensures) (at-if1 .before .before .symbol-at .ensures) in
+    rw (c .past .ensures) (omega arith)
 
 same-length : tie.Need-same-length
 same-length c = search needs
@@ -41,21 +35,16 @@ returns : tie.Need-returns
 returns c =
     let at-put-empty = c .before .before .before .before in
     let at-if1 = at-put-empty .before .before .before in
-    let at-is-symbol = at-if1 .before in
-    let at-symbol-at = at-is-symbol .before in
-    let at-start = at-symbol-at .before .before .before .before .before in
+    let at-start = at-if1 .before .before .before .before .before .before .before in
     let r = at-start .pre .0 in
-    let e = learnt (code.RParen ∷ []) (at-if1 .if1 .taken) (at-is-symbol .is-symbol .ensures) (at-symbol-at .symbol-at .ensures) in
-    let l = took (code.RParen ∷ []) refl refl (r .tokens) (r .here) e in
-    record { comes = λ vs. tok-then (r .here) e (act-wrote (r .used ∙ sym (l .text)) (at-put-empty .put-empty .ensures _)) }
+    let m = met (code.RParen ∷ []) refl refl (r .tokens) (r .here) (at-if1 .if1 .taken) (at-if1 .before .is-symbol .ensures) (at-if1 .before .before .symbol-at .ensures) in
+    record { comes = λ vs. met-wrote (r .used) m (rw (at-put-empty .before .past .ensures) at (at-put-empty .put-empty .ensures (at-start .args .src .now))) }
 
 returns-2 : tie.Need-returns-2
 returns-2 c =
-    let at-is-symbol = c .before in
-    let at-symbol-at = at-is-symbol .before in
-    let at-start = at-symbol-at .before .before .before .before .before in
+    let at-start = c .before .before .before .before .before .before .before in
     let r = at-start .pre .0 in
-    let e = learnt (code.RParen ∷ []) (c .if1 .left) (at-is-symbol .is-symbol .ensures) (at-symbol-at .symbol-at .ensures) in
+    let e = learnt (code.RParen ∷ []) (c .if1 .left) (c .before .is-symbol .ensures) (c .before .before .symbol-at .ensures) in
     record { comes = λ vs. tok-not (r .here) (r .used) e }
 
 pub unit-spec : {M : Type 1} → statement M
@@ -64,7 +53,7 @@ unit-spec =
     (tie.spec
     symbol-at-requires
     is-symbol-requires
-    add-t
+    past-requires
     put-empty-requires
     same-length
     returns

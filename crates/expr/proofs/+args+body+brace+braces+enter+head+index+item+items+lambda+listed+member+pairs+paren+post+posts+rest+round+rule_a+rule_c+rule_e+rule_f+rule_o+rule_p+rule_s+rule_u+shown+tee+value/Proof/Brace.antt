@@ -1,9 +1,9 @@
 -- `expr::brace`, a member of the cycle.
 -- Assumes nothing.
+use Rattle.expr.proofs.Tested.{met}
 use Rattle.joint.proofs.Loops.{ready-of}
 use Rattle.joint.proofs.Chain.{tok-then, or-first, or-next}
 use Rattle.joint.proofs.Ends.{one-then}
-use Rattle.lookahead.proofs.Tokens.{took}
 use Rattle.lookahead.proofs.Tests.{learnt}
 use Rattle.token.specs.Code as code
 use Rattle.grammar.specs.Descent.{null, begins}
@@ -15,36 +15,32 @@ use Prim.Native.Nat.{ℕ}
 use Rattle.expr.proofs.+args+body+brace+braces+enter+head+index+item+items+lambda+listed+member+pairs+paren+post+posts+rest+round+rule_a+rule_c+rule_e+rule_f+rule_o+rule_p+rule_s+rule_u+shown+tee+value.Lts-brace as lts
 use Rattle.expr.proofs.brace.Reads as reads
 use Rattle.lookahead.proofs.symbol_at.Reads as symbol-at-reads
+use Rattle.leaves.proofs.past.Reads as past-reads
 use Rattle.lookahead.proofs.is_symbol.Reads as is-symbol-reads
 use Rattle.expr.proofs.pairs.Reads as pairs
 use Rattle.expr.proofs.listed.Reads as listed
 use Rattle.expr.proofs.+args+body+brace+braces+enter+head+index+item+items+lambda+listed+member+pairs+paren+post+posts+rest+round+rule_a+rule_c+rule_e+rule_f+rule_o+rule_p+rule_s+rule_u+shown+tee+value.Proof.Start.{brace-at, pairs-below, listed-below}
 
 abbrev calls : ℕ → lts.Claims
-calls t = (symbol-at-reads.Asked, symbol-at-reads.Learnt, is-symbol-reads.Asked, is-symbol-reads.Learnt, pairs-below t, pairs.Post, listed-below t, listed.Post)
+calls t = (symbol-at-reads.Asked, symbol-at-reads.Learnt, is-symbol-reads.Asked, is-symbol-reads.Learnt, past-reads.Asked, past-reads.Learnt, pairs-below t, pairs.Post, listed-below t, listed.Post)
 
 module _ (t : ℕ) where
   symbol-at-requires : lts.Need-symbol-at-requires (calls t) (brace-at t) reads.Post
-  symbol-at-requires c κs =
-      let at-start = c .before .before .before .before in
-      (at-start .pre .1 .0 .tokens, at-start .pre .1 .0 .here)
+  symbol-at-requires c κs = search needs
 
   is-symbol-requires : lts.Need-is-symbol-requires (calls t) (brace-at t) reads.Post
   is-symbol-requires c κs = search needs
 
-  add-t : lts.Need-add-t (calls t) (brace-at t) reads.Post
-  add-t c = omega arith
+  past-requires : lts.Need-past-requires (calls t) (brace-at t) reads.Post
+  past-requires c κs = omega arith
 
   pairs-requires : lts.Need-pairs-requires (calls t) (brace-at t) reads.Post
   pairs-requires c κs =
       let at-if1 = c .before .before in
-      let at-is-symbol = at-if1 .before in
-      let at-symbol-at = at-is-symbol .before in
-      let at-start = at-symbol-at .before .before .before .before .before in
+      let at-start = at-if1 .before .before .before .before .before .before .before in
       let r = at-start .pre .1 .0 in
-      let e = learnt (code.Colon ∷ []) (at-if1 .if1 .taken) (at-is-symbol .is-symbol .ensures) (at-symbol-at .symbol-at .ensures) in
-      let l = took (code.Colon ∷ []) refl refl (r .tokens) (r .here) e in
-      (omega arith, (ready-of (r .tokens) (omega arith), (omega arith, at-start .pre .1 .1 .1)))
+      let m = met (code.Colon ∷ []) refl refl (r .tokens) (r .here) (at-if1 .if1 .taken) (at-if1 .before .is-symbol .ensures) (at-if1 .before .before .symbol-at .ensures) in
+      rw (c .past .ensures) (omega arith, (ready-of (r .tokens) (omega arith), (omega arith, at-start .pre .1 .1 .1)))
 
   listed-requires : lts.Need-listed-requires (calls t) (brace-at t) reads.Post
   listed-requires c κs =
@@ -59,12 +55,9 @@ module _ (t : ℕ) where
   returns c =
       let at-pairs = c .before .before in
       let at-if1 = at-pairs .before .before .before in
-      let at-is-symbol = at-if1 .before in
-      let at-symbol-at = at-is-symbol .before in
-      let at-start = at-symbol-at .before .before .before .before .before in
-      let r = at-start .pre .1 .0 in
-      let e = learnt (code.Colon ∷ []) (at-if1 .if1 .taken) (at-is-symbol .is-symbol .ensures) (at-symbol-at .symbol-at .ensures) in
-      record { comes = λ vs. or-first (r .here) e (tok-then (r .here) e (at-pairs .pairs .ensures .comes vs)) }
+      let r = at-if1 .before .before .before .before .before .before .before .pre .1 .0 in
+      let e = learnt (code.Colon ∷ []) (at-if1 .if1 .taken) (at-if1 .before .is-symbol .ensures) (at-if1 .before .before .symbol-at .ensures) in
+      record { comes = λ vs. or-first (r .here) e (tok-then (r .here) e (rw (at-pairs .before .past .ensures) at (at-pairs .pairs .ensures .comes vs))) }
 
   same-length-2 : lts.Need-same-length-2 (calls t) (brace-at t) reads.Post
   same-length-2 c = search needs
@@ -74,12 +67,9 @@ module _ (t : ℕ) where
   returns-2 c =
       let at-listed = c .before .before in
       let at-if1 = at-listed .before .before in
-      let at-is-symbol = at-if1 .before in
-      let at-symbol-at = at-is-symbol .before in
-      let at-start = at-symbol-at .before .before .before .before .before in
-      let r = at-start .pre .1 .0 in
-      let e = learnt (code.Colon ∷ []) (at-if1 .if1 .left) (at-is-symbol .is-symbol .ensures) (at-symbol-at .symbol-at .ensures) in
+      let r = at-if1 .before .before .before .before .before .before .before .pre .1 .0 in
+      let e = learnt (code.Colon ∷ []) (at-if1 .if1 .left) (at-if1 .before .is-symbol .ensures) (at-if1 .before .before .symbol-at .ensures) in
       record { comes = λ vs. or-next (r .here) e (one-then (at-listed .listed .ensures .comes vs)) }
 
   pub meets : {M : Type 1} → lts.Closed (calls t) (brace-at t) reads.Post M
-  meets = lts.spec (calls t) (brace-at t) reads.Post symbol-at-requires is-symbol-requires add-t pairs-requires listed-requires same-length returns same-length-2 returns-2
+  meets = lts.spec (calls t) (brace-at t) reads.Post symbol-at-requires is-symbol-requires past-requires pairs-requires listed-requires same-length returns same-length-2 returns-2

@@ -1,22 +1,20 @@
 -- `expr::braces`, a member of the cycle.
 -- Assumes nothing.
+use Rattle.expr.proofs.Tested.{met, met-wrote, after-enter}
 use Rattle.joint.proofs.Loops.{ready-of}
-use Rattle.joint.proofs.Ends.{act-wrote}
-use Rattle.joint.proofs.Chain.{tok-then, part-then, part-stop, or-first, or-next}
-use Rattle.joint.proofs.Bounds.{after-call, spares-e}
-use Rattle.lookahead.proofs.Tokens.{took}
+use Rattle.joint.proofs.Chain.{part-then, part-stop, or-first, or-next}
 use Rattle.lookahead.proofs.Tests.{learnt}
-use Rattle.pyhyeon.specs.Tables.{first, rank}
 use Rattle.token.specs.Code as code
 use Rattle.grammar.specs.Descent.{null, begins}
 use mathlib.Core.List.{[], _∷_}
-use mathlib.Core.Path.{refl, sym, _∙_}
+use mathlib.Core.Path.{refl}
 use borrow.Author.Needs.{needs}
 use native.Mathlib.Omega.{arith}
 use Prim.Native.Nat.{ℕ}
 use Rattle.expr.proofs.+args+body+brace+braces+enter+head+index+item+items+lambda+listed+member+pairs+paren+post+posts+rest+round+rule_a+rule_c+rule_e+rule_f+rule_o+rule_p+rule_s+rule_u+shown+tee+value.Lts-braces as lts
 use Rattle.expr.proofs.braces.Reads as reads
 use Rattle.lookahead.proofs.symbol_at.Reads as symbol-at-reads
+use Rattle.leaves.proofs.past.Reads as past-reads
 use Rattle.lookahead.proofs.is_symbol.Reads as is-symbol-reads
 use Rattle.expr_leaves.proofs.put_empty.Reads as put-empty-reads
 use Rattle.expr.proofs.enter.Reads as enter
@@ -24,30 +22,25 @@ use Rattle.expr.proofs.brace.Reads as brace
 use Rattle.expr.proofs.+args+body+brace+braces+enter+head+index+item+items+lambda+listed+member+pairs+paren+post+posts+rest+round+rule_a+rule_c+rule_e+rule_f+rule_o+rule_p+rule_s+rule_u+shown+tee+value.Proof.Start.{braces-at, enter-below, brace-below}
 
 abbrev calls : ℕ → lts.Claims
-calls t = (symbol-at-reads.Asked, symbol-at-reads.Learnt, is-symbol-reads.Asked, is-symbol-reads.Learnt, put-empty-reads.Asked, put-empty-reads.Learnt, enter-below t, enter.Post, brace-below t, brace.Post)
+calls t = (symbol-at-reads.Asked, symbol-at-reads.Learnt, is-symbol-reads.Asked, is-symbol-reads.Learnt, past-reads.Asked, past-reads.Learnt, put-empty-reads.Asked, put-empty-reads.Learnt, enter-below t, enter.Post, brace-below t, brace.Post)
 
 module _ (t : ℕ) where
   symbol-at-requires : lts.Need-symbol-at-requires (calls t) (braces-at t) reads.Post
-  symbol-at-requires c κs =
-      let at-start = c .before .before .before .before in
-      (at-start .pre .1 .0 .tokens, at-start .pre .1 .0 .here)
+  symbol-at-requires c κs = search needs
 
   is-symbol-requires : lts.Need-is-symbol-requires (calls t) (braces-at t) reads.Post
   is-symbol-requires c κs = search needs
 
-  add-t : lts.Need-add-t (calls t) (braces-at t) reads.Post
-  add-t c = omega arith
+  past-requires : lts.Need-past-requires (calls t) (braces-at t) reads.Post
+  past-requires c κs = omega arith
 
   put-empty-requires : lts.Need-put-empty-requires (calls t) (braces-at t) reads.Post
   put-empty-requires c κs =
       let at-if1 = c .before .before in
-      let at-is-symbol = at-if1 .before in
-      let at-symbol-at = at-is-symbol .before in
-      let at-start = at-symbol-at .before .before .before .before .before in
+      let at-start = at-if1 .before .before .before .before .before .before .before in
       let r = at-start .pre .1 .0 in
-      let e = learnt (code.RBrace ∷ []) (at-if1 .if1 .taken) (at-is-symbol .is-symbol .ensures) (at-symbol-at .symbol-at .ensures) in
-      let l = took (code.RBrace ∷ []) refl refl (r .tokens) (r .here) e in
-      omega arith
+      let m = met (code.RBrace ∷ []) refl refl (r .tokens) (r .here) (at-if1 .if1 .taken) (at-if1 .before .is-symbol .ensures) (at-if1 .before .before .symbol-at .ensures) in
+      rw (c .past .ensures) (omega arith)
 
   enter-requires : lts.Need-enter-requires (calls t) (braces-at t) reads.Post
   enter-requires c κs =
@@ -59,13 +52,12 @@ module _ (t : ℕ) where
   enum-known-inner c = search needs
 
   brace-requires : lts.Need-brace-requires (calls t) (braces-at t) reads.Post
-  unfolding first rank
   brace-requires c κs =
       let at-inner = c .before .before in
       let at-enter = at-inner .before .before .before .before in
       let at-start = at-enter .before .before .before .before .before .before .before .before .before in
       let r = at-start .pre .1 .0 in
-      let g = after-call _ _ (r .tokens) spares-e refl (r .here) (at-enter .enter .ensures) (at-inner .inner .given .1) in
+      let g = after-enter r (at-enter .enter .ensures) (at-inner .inner .given .1) in
       (omega arith, (ready-of (r .tokens) (omega arith), (omega arith, g .node)))
 
   enum-known-inner-2 : lts.Need-enum-known-inner-2 (calls t) (braces-at t) reads.Post
@@ -79,13 +71,10 @@ module _ (t : ℕ) where
   returns c =
       let at-put-empty = c .before .before .before .before in
       let at-if1 = at-put-empty .before .before .before in
-      let at-is-symbol = at-if1 .before in
-      let at-symbol-at = at-is-symbol .before in
-      let at-start = at-symbol-at .before .before .before .before .before in
+      let at-start = at-if1 .before .before .before .before .before .before .before in
       let r = at-start .pre .1 .0 in
-      let e = learnt (code.RBrace ∷ []) (at-if1 .if1 .taken) (at-is-symbol .is-symbol .ensures) (at-symbol-at .symbol-at .ensures) in
-      let l = took (code.RBrace ∷ []) refl refl (r .tokens) (r .here) e in
-      record { comes = λ vs. or-first (r .here) e (tok-then (r .here) e (act-wrote (r .used ∙ sym (l .text)) (at-put-empty .put-empty .ensures _))) }
+      let m = met (code.RBrace ∷ []) refl refl (r .tokens) (r .here) (at-if1 .if1 .taken) (at-if1 .before .is-symbol .ensures) (at-if1 .before .before .symbol-at .ensures) in
+      record { comes = λ vs. or-first (r .here) (m .seen) (met-wrote (r .used) m (rw (at-put-empty .before .past .ensures) at (at-put-empty .put-empty .ensures (at-start .args .src .now)))) }
 
   same-length-2 : lts.Need-same-length-2 (calls t) (braces-at t) reads.Post
   same-length-2 c = search needs
@@ -97,11 +86,8 @@ module _ (t : ℕ) where
       let at-inner = at-brace .before .before .before in
       let at-enter = at-inner .before .before .before .before in
       let at-if1 = at-enter .before .before in
-      let at-is-symbol = at-if1 .before in
-      let at-symbol-at = at-is-symbol .before in
-      let at-start = at-symbol-at .before .before .before .before .before in
-      let r = at-start .pre .1 .0 in
-      let e = learnt (code.RBrace ∷ []) (at-if1 .if1 .left) (at-is-symbol .is-symbol .ensures) (at-symbol-at .symbol-at .ensures) in
+      let r = at-if1 .before .before .before .before .before .before .before .pre .1 .0 in
+      let e = learnt (code.RBrace ∷ []) (at-if1 .if1 .left) (at-if1 .before .is-symbol .ensures) (at-if1 .before .before .symbol-at .ensures) in
       record { comes = λ vs. or-next (r .here) e (part-then (at-enter .enter .ensures) (at-inner .inner .given .1) (at-brace .brace .ensures .comes vs)) }
 
   same-length-3 : lts.Need-same-length-3 (calls t) (braces-at t) reads.Post
@@ -113,12 +99,9 @@ module _ (t : ℕ) where
       let at-inner2 = c .before in
       let at-enter = at-inner2 .before .before .before .before in
       let at-if1 = at-enter .before .before in
-      let at-is-symbol = at-if1 .before in
-      let at-symbol-at = at-is-symbol .before in
-      let at-start = at-symbol-at .before .before .before .before .before in
-      let r = at-start .pre .1 .0 in
-      let e = learnt (code.RBrace ∷ []) (at-if1 .if1 .left) (at-is-symbol .is-symbol .ensures) (at-symbol-at .symbol-at .ensures) in
+      let r = at-if1 .before .before .before .before .before .before .before .pre .1 .0 in
+      let e = learnt (code.RBrace ∷ []) (at-if1 .if1 .left) (at-if1 .before .is-symbol .ensures) (at-if1 .before .before .symbol-at .ensures) in
       record { comes = λ vs. or-next (r .here) e (part-stop _ (at-enter .enter .ensures) (at-inner2 .inner2 .given .1)) }
 
   pub meets : {M : Type 1} → lts.Closed (calls t) (braces-at t) reads.Post M
-  meets = lts.spec (calls t) (braces-at t) reads.Post symbol-at-requires is-symbol-requires add-t put-empty-requires enter-requires enum-known-inner brace-requires enum-known-inner-2 same-length returns same-length-2 returns-2 same-length-3 returns-3
+  meets = lts.spec (calls t) (braces-at t) reads.Post symbol-at-requires is-symbol-requires past-requires put-empty-requires enter-requires enum-known-inner brace-requires enum-known-inner-2 same-length returns same-length-2 returns-2 same-length-3 returns-3

@@ -18,9 +18,7 @@ calls t = (symbol-at-reads.Asked, symbol-at-reads.Learnt, begins-e-reads.Asked, 
 
 module _ (t : ℕ) where
   symbol-at-requires : lts.Need-symbol-at-requires (calls t) (enter-at t) reads.Post
-  symbol-at-requires c κs =
-      let at-start = c .before .before .before .before in
-      (at-start .pre .1 .tokens, at-start .pre .1 .here)
+  symbol-at-requires c κs = search needs
 
   begins-e-requires : lts.Need-begins-e-requires (calls t) (enter-at t) reads.Post
   begins-e-requires c κs = search needs
@@ -29,10 +27,8 @@ module _ (t : ℕ) where
   unfolding first
   rule-e-requires c κs =
       let at-if1 = c .before in
-      let at-begins-e = at-if1 .before in
-      let at-symbol-at = at-begins-e .before in
-      let at-start = at-symbol-at .before .before .before .before .before in
-      let e = learnt firstE (at-if1 .if1 .taken) (at-begins-e .begins-e .ensures) (at-symbol-at .symbol-at .ensures) in
+      let at-start = at-if1 .before .before .before .before .before .before .before in
+      let e = learnt firstE (at-if1 .if1 .taken) (at-if1 .before .begins-e .ensures) (at-if1 .before .before .symbol-at .ensures) in
       (omega arith, (at-start .pre .1, record { seen = e }))
 
   same-length : lts.Need-same-length (calls t) (enter-at t) reads.Post
@@ -43,19 +39,14 @@ module _ (t : ℕ) where
   returns c =
       let at-rule-e = c .before .before in
       let at-if1 = at-rule-e .before .before in
-      let at-begins-e = at-if1 .before in
-      let at-symbol-at = at-begins-e .before in
-      let at-start = at-symbol-at .before .before .before .before .before in
-      let e = learnt firstE (at-if1 .if1 .taken) (at-begins-e .begins-e .ensures) (at-symbol-at .symbol-at .ensures) in
-      called (at-start .pre .1 .here) e (at-rule-e .rule-e .ensures)
+      let e = learnt firstE (at-if1 .if1 .taken) (at-if1 .before .begins-e .ensures) (at-if1 .before .before .symbol-at .ensures) in
+      called (at-if1 .before .before .before .before .before .before .before .pre .1 .here) e (at-rule-e .rule-e .ensures)
 
   returns-2 : lts.Need-returns-2 (calls t) (enter-at t) reads.Post
   unfolding first
   returns-2 c =
-      let at-begins-e = c .before in
-      let at-symbol-at = at-begins-e .before in
-      let at-start = at-symbol-at .before .before .before .before .before in
-      let e = learnt firstE (c .if1 .left) (at-begins-e .begins-e .ensures) (at-symbol-at .symbol-at .ensures) in
+      let at-start = c .before .before .before .before .before .before .before in
+      let e = learnt firstE (c .if1 .left) (c .before .begins-e .ensures) (c .before .before .symbol-at .ensures) in
       not-called (at-start .pre .1 .here) (at-start .pre .1 .used) e
 
   pub meets : {M : Type 1} → lts.Closed (calls t) (enter-at t) reads.Post M

@@ -5,11 +5,12 @@ use mathlib.Core.Path.{_≡_}
 use Rattle.lookahead.proofs.Tests.{of-first}
 use Rattle.pyhyeon.specs.Rules.{literals}
 use Rattle.pyhyeon.specs.Symbol.{Tee}
+use Rattle.expr.proofs.Tested.{met-seen, met-wrote}
 use Rattle.joint.proofs.Loops.{ready-of}
-use Rattle.joint.proofs.Ends.{act-wrote, act-literal, tok-mark}
+use Rattle.joint.proofs.Ends.{act-literal, tok-mark}
 use Rattle.joint.proofs.Chain.{tok-then, or-first, or-next}
-use Rattle.lookahead.proofs.Tokens.{before-eof, took}
-use Rattle.lookahead.proofs.Tests.{coded, not-first}
+use Rattle.lookahead.proofs.Tokens.{before-eof}
+use Rattle.lookahead.proofs.Tests.{not-first}
 use Rattle.pyhyeon.specs.Tables.{first, firstF}
 use Rattle.token.specs.Code as code
 use Rattle.grammar.specs.Descent.{null, begins}
@@ -36,21 +37,15 @@ calls t = (symbol-at-reads.Asked, symbol-at-reads.Learnt, past-reads.Asked, past
 
 module _ (t : ℕ) where
   symbol-at-requires : lts.Need-symbol-at-requires (calls t) (head-at t) reads.Post
-  symbol-at-requires c κs =
-      let at-start = c .before .before .before .before in
-      (at-start .pre .1 .0 .tokens, at-start .pre .1 .0 .here)
+  symbol-at-requires c κs = search needs
 
   past-requires : lts.Need-past-requires (calls t) (head-at t) reads.Post
   past-requires c κs = omega arith
 
   shown-requires : lts.Need-shown-requires (calls t) (head-at t) reads.Post
   shown-requires c κs =
-      let at-match = c .before .before in
-      let at-symbol-at = at-match .before in
-      let at-start = at-symbol-at .before .before .before .before .before in
-      let r = at-start .pre .1 .0 in
-      let e = coded (code.LBracket ∷ []) 38 (at-symbol-at .symbol-at .ensures) (at-match .match .keys1) refl in
-      let l = took (code.LBracket ∷ []) refl refl (r .tokens) (r .here) e in
+      let r = c .before .before .before .before .before .before .before .before .pre .1 .0 in
+      let m = met-seen (code.LBracket ∷ []) refl refl (r .tokens) (r .here) (rw (sym (c .before .before .before .symbol-at .ensures) ∙ c .before .before .match .keys1)) in
       rw (c .past .ensures) (omega arith, (ready-of (r .tokens) (omega arith), (omega arith, refl, refl)))
 
   past-requires-2 : lts.Need-past-requires-2 (calls t) (head-at t) reads.Post
@@ -58,12 +53,8 @@ module _ (t : ℕ) where
 
   tee-requires : lts.Need-tee-requires (calls t) (head-at t) reads.Post
   tee-requires c κs =
-      let at-match = c .before .before in
-      let at-symbol-at = at-match .before in
-      let at-start = at-symbol-at .before .before .before .before .before in
-      let r = at-start .pre .1 .0 in
-      let e = coded (Tee ∷ []) 50 (at-symbol-at .symbol-at .ensures) (at-match .match .keys2) refl in
-      let l = took (Tee ∷ []) refl refl (r .tokens) (r .here) e in
+      let r = c .before .before .before .before .before .before .before .before .pre .1 .0 in
+      let m = met-seen (Tee ∷ []) refl refl (r .tokens) (r .here) (rw (sym (c .before .before .before .symbol-at .ensures) ∙ c .before .before .match .keys2)) in
       rw (c .past2 .ensures) (omega arith, (ready-of (r .tokens) (omega arith), refl))
 
   past-requires-3 : lts.Need-past-requires-3 (calls t) (head-at t) reads.Post
@@ -71,12 +62,8 @@ module _ (t : ℕ) where
 
   braces-requires : lts.Need-braces-requires (calls t) (head-at t) reads.Post
   braces-requires c κs =
-      let at-match = c .before .before in
-      let at-symbol-at = at-match .before in
-      let at-start = at-symbol-at .before .before .before .before .before in
-      let r = at-start .pre .1 .0 in
-      let e = coded (code.LBrace ∷ []) 40 (at-symbol-at .symbol-at .ensures) (at-match .match .keys3) refl in
-      let l = took (code.LBrace ∷ []) refl refl (r .tokens) (r .here) e in
+      let r = c .before .before .before .before .before .before .before .before .pre .1 .0 in
+      let m = met-seen (code.LBrace ∷ []) refl refl (r .tokens) (r .here) (rw (sym (c .before .before .before .symbol-at .ensures) ∙ c .before .before .match .keys3)) in
       rw (c .past3 .ensures) (omega arith, (ready-of (r .tokens) (omega arith), omega arith))
 
   past-requires-4 : lts.Need-past-requires-4 (calls t) (head-at t) reads.Post
@@ -84,12 +71,8 @@ module _ (t : ℕ) where
 
   round-requires : lts.Need-round-requires (calls t) (head-at t) reads.Post
   round-requires c κs =
-      let at-match = c .before .before in
-      let at-symbol-at = at-match .before in
-      let at-start = at-symbol-at .before .before .before .before .before in
-      let r = at-start .pre .1 .0 in
-      let e = coded (code.LParen ∷ []) 36 (at-symbol-at .symbol-at .ensures) (at-match .match .keys4) refl in
-      let l = took (code.LParen ∷ []) refl refl (r .tokens) (r .here) e in
+      let r = c .before .before .before .before .before .before .before .before .pre .1 .0 in
+      let m = met-seen (code.LParen ∷ []) refl refl (r .tokens) (r .here) (rw (sym (c .before .before .before .symbol-at .ensures) ∙ c .before .before .match .keys4)) in
       rw (c .past4 .ensures) (omega arith, (ready-of (r .tokens) (omega arith), omega arith))
 
   past-requires-5 : lts.Need-past-requires-5 (calls t) (head-at t) reads.Post
@@ -97,12 +80,8 @@ module _ (t : ℕ) where
 
   put-named-requires : lts.Need-put-named-requires (calls t) (head-at t) reads.Post
   put-named-requires c κs =
-      let at-match = c .before .before in
-      let at-symbol-at = at-match .before in
-      let at-start = at-symbol-at .before .before .before .before .before in
-      let r = at-start .pre .1 .0 in
-      let e = coded (code.Identifier ∷ []) 21 (at-symbol-at .symbol-at .ensures) (at-match .match .keys5) refl in
-      let l = took (code.Identifier ∷ []) refl refl (r .tokens) (r .here) e in
+      let r = c .before .before .before .before .before .before .before .before .pre .1 .0 in
+      let m = met-seen (code.Identifier ∷ []) refl refl (r .tokens) (r .here) (rw (sym (c .before .before .before .symbol-at .ensures) ∙ c .before .before .match .keys5)) in
       rw (c .past5 .ensures) (omega arith)
 
   past-requires-6 : lts.Need-past-requires-6 (calls t) (head-at t) reads.Post
@@ -124,13 +103,10 @@ module _ (t : ℕ) where
   unfolding first begins null
   returns c =
       let at-shown = c .before .before in
-      let at-past = at-shown .before in
-      let at-match = at-past .before .before in
-      let at-symbol-at = at-match .before in
-      let at-start = at-symbol-at .before .before .before .before .before in
-      let h = at-start .pre .1 .0 .here in
-      let e = coded (code.LBracket ∷ []) 38 (at-symbol-at .symbol-at .ensures) (at-match .match .keys1) refl in
-      record { comes = λ vs. or-next h (coded literals 38 (at-symbol-at .symbol-at .ensures) (at-match .match .keys1) refl) (or-first h e (tok-mark h e (rw (at-past .past .ensures) at (at-shown .shown .ensures .comes vs)))) }
+      let at-match = at-shown .before .before .before in
+      let h = at-match .before .before .before .before .before .before .pre .1 .0 .here in
+      let q = sym (at-match .before .symbol-at .ensures) ∙ at-match .match .keys1 in
+      record { comes = λ vs. or-next h (rw q) (or-first h (rw q) (tok-mark h (rw q) (rw (at-shown .before .past .ensures) at (at-shown .shown .ensures .comes vs)))) }
 
   same-length-2 : lts.Need-same-length-2 (calls t) (head-at t) reads.Post
   same-length-2 c = search needs
@@ -139,13 +115,10 @@ module _ (t : ℕ) where
   unfolding first begins null
   returns-2 c =
       let at-tee = c .before .before in
-      let at-past = at-tee .before in
-      let at-match = at-past .before .before in
-      let at-symbol-at = at-match .before in
-      let at-start = at-symbol-at .before .before .before .before .before in
-      let h = at-start .pre .1 .0 .here in
-      let e = coded (Tee ∷ []) 50 (at-symbol-at .symbol-at .ensures) (at-match .match .keys2) refl in
-      record { comes = λ vs. or-next h (coded literals 50 (at-symbol-at .symbol-at .ensures) (at-match .match .keys2) refl) (or-next h (coded (code.LBracket ∷ []) 50 (at-symbol-at .symbol-at .ensures) (at-match .match .keys2) refl) (or-first h e (tok-then h e (rw (at-past .past2 .ensures) at (at-tee .tee .ensures .comes vs))))) }
+      let at-match = at-tee .before .before .before in
+      let h = at-match .before .before .before .before .before .before .pre .1 .0 .here in
+      let q = sym (at-match .before .symbol-at .ensures) ∙ at-match .match .keys2 in
+      record { comes = λ vs. or-next h (rw q) (or-next h (rw q) (or-first h (rw q) (tok-then h (rw q) (rw (at-tee .before .past2 .ensures) at (at-tee .tee .ensures .comes vs))))) }
 
   same-length-3 : lts.Need-same-length-3 (calls t) (head-at t) reads.Post
   same-length-3 c = search needs
@@ -154,13 +127,10 @@ module _ (t : ℕ) where
   unfolding first begins null
   returns-3 c =
       let at-braces = c .before .before in
-      let at-past = at-braces .before in
-      let at-match = at-past .before .before in
-      let at-symbol-at = at-match .before in
-      let at-start = at-symbol-at .before .before .before .before .before in
-      let h = at-start .pre .1 .0 .here in
-      let e = coded (code.LBrace ∷ []) 40 (at-symbol-at .symbol-at .ensures) (at-match .match .keys3) refl in
-      record { comes = λ vs. or-next h (coded literals 40 (at-symbol-at .symbol-at .ensures) (at-match .match .keys3) refl) (or-next h (coded (code.LBracket ∷ []) 40 (at-symbol-at .symbol-at .ensures) (at-match .match .keys3) refl) (or-next h (coded (Tee ∷ []) 40 (at-symbol-at .symbol-at .ensures) (at-match .match .keys3) refl) (or-first h e (tok-mark h e (rw (at-past .past3 .ensures) at (at-braces .braces .ensures .comes vs)))))) }
+      let at-match = at-braces .before .before .before in
+      let h = at-match .before .before .before .before .before .before .pre .1 .0 .here in
+      let q = sym (at-match .before .symbol-at .ensures) ∙ at-match .match .keys3 in
+      record { comes = λ vs. or-next h (rw q) (or-next h (rw q) (or-next h (rw q) (or-first h (rw q) (tok-mark h (rw q) (rw (at-braces .before .past3 .ensures) at (at-braces .braces .ensures .comes vs)))))) }
 
   same-length-4 : lts.Need-same-length-4 (calls t) (head-at t) reads.Post
   same-length-4 c = search needs
@@ -169,13 +139,10 @@ module _ (t : ℕ) where
   unfolding first begins null
   returns-4 c =
       let at-round = c .before .before in
-      let at-past = at-round .before in
-      let at-match = at-past .before .before in
-      let at-symbol-at = at-match .before in
-      let at-start = at-symbol-at .before .before .before .before .before in
-      let h = at-start .pre .1 .0 .here in
-      let e = coded (code.LParen ∷ []) 36 (at-symbol-at .symbol-at .ensures) (at-match .match .keys4) refl in
-      record { comes = λ vs. or-next h (coded literals 36 (at-symbol-at .symbol-at .ensures) (at-match .match .keys4) refl) (or-next h (coded (code.LBracket ∷ []) 36 (at-symbol-at .symbol-at .ensures) (at-match .match .keys4) refl) (or-next h (coded (Tee ∷ []) 36 (at-symbol-at .symbol-at .ensures) (at-match .match .keys4) refl) (or-next h (coded (code.LBrace ∷ []) 36 (at-symbol-at .symbol-at .ensures) (at-match .match .keys4) refl) (or-first h e (tok-mark h e (rw (at-past .past4 .ensures) at (at-round .round .ensures .comes vs))))))) }
+      let at-match = at-round .before .before .before in
+      let h = at-match .before .before .before .before .before .before .pre .1 .0 .here in
+      let q = sym (at-match .before .symbol-at .ensures) ∙ at-match .match .keys4 in
+      record { comes = λ vs. or-next h (rw q) (or-next h (rw q) (or-next h (rw q) (or-next h (rw q) (or-first h (rw q) (tok-mark h (rw q) (rw (at-round .before .past4 .ensures) at (at-round .round .ensures .comes vs))))))) }
 
   same-length-5 : lts.Need-same-length-5 (calls t) (head-at t) reads.Post
   same-length-5 c = search needs
@@ -184,15 +151,12 @@ module _ (t : ℕ) where
   unfolding first begins null
   returns-5 c =
       let at-put-named = c .before .before .before .before in
-      let at-past = at-put-named .before in
-      let at-match = at-past .before .before in
-      let at-symbol-at = at-match .before in
-      let at-start = at-symbol-at .before .before .before .before .before in
-      let r = at-start .pre .1 .0 in
+      let at-match = at-put-named .before .before .before in
+      let r = at-match .before .before .before .before .before .before .pre .1 .0 in
       let h = r .here in
-      let e = coded (code.Identifier ∷ []) 21 (at-symbol-at .symbol-at .ensures) (at-match .match .keys5) refl in
-      let l = took (code.Identifier ∷ []) refl refl (r .tokens) (r .here) e in
-      record { comes = λ vs. or-next h (coded literals 21 (at-symbol-at .symbol-at .ensures) (at-match .match .keys5) refl) (or-next h (coded (code.LBracket ∷ []) 21 (at-symbol-at .symbol-at .ensures) (at-match .match .keys5) refl) (or-next h (coded (Tee ∷ []) 21 (at-symbol-at .symbol-at .ensures) (at-match .match .keys5) refl) (or-next h (coded (code.LBrace ∷ []) 21 (at-symbol-at .symbol-at .ensures) (at-match .match .keys5) refl) (or-next h (coded (code.LParen ∷ []) 21 (at-symbol-at .symbol-at .ensures) (at-match .match .keys5) refl) (tok-then h e (act-wrote (r .used ∙ sym (l .text)) (rw (at-past .past5 .ensures) at (at-put-named .put-named .ensures (at-start .args .src .now))))))))) }
+      let q = sym (at-match .before .symbol-at .ensures) ∙ at-match .match .keys5 in
+      let m = met-seen (code.Identifier ∷ []) refl refl (r .tokens) h (rw q) in
+      record { comes = λ vs. or-next h (rw q) (or-next h (rw q) (or-next h (rw q) (or-next h (rw q) (or-next h (rw q) (met-wrote (r .used) m (rw (at-put-named .before .past5 .ensures) at (at-put-named .put-named .ensures (at-match .before .before .before .before .before .before .args .src .now)))))))) }
 
   same-length-6 : lts.Need-same-length-6 (calls t) (head-at t) reads.Post
   same-length-6 c = search needs
@@ -201,14 +165,13 @@ module _ (t : ℕ) where
   unfolding first begins null
   returns-6 c =
       let at-put-literal = c .before .before .before .before in
-      let at-past = at-put-literal .before in
-      let at-match = at-past .before .before in
-      let at-symbol-at = at-match .before in
-      let at-start = at-symbol-at .before .before .before .before .before in
+      let at-match = at-put-literal .before .before .before in
+      let at-start = at-match .before .before .before .before .before .before in
       let h = at-start .pre .1 .0 .here in
-      let n = not-first 38 (Tee ∷ code.LBrace ∷ code.LParen ∷ code.Identifier ∷ []) (at-symbol-at .symbol-at .ensures) (at-match .match .rest .0 .0 .0 .0 .1) ∙ not-first 50 (code.LBrace ∷ code.LParen ∷ code.Identifier ∷ []) (at-symbol-at .symbol-at .ensures) (at-match .match .rest .0 .0 .0 .1) ∙ not-first 40 (code.LParen ∷ code.Identifier ∷ []) (at-symbol-at .symbol-at .ensures) (at-match .match .rest .0 .0 .1) ∙ not-first 36 (code.Identifier ∷ []) (at-symbol-at .symbol-at .ensures) (at-match .match .rest .0 .1) ∙ not-first 21 [] (at-symbol-at .symbol-at .ensures) (at-match .match .rest .1) in
+      let k = at-match .before .symbol-at .ensures in
+      let n = not-first 38 (Tee ∷ code.LBrace ∷ code.LParen ∷ code.Identifier ∷ []) k (at-match .match .rest .0 .0 .0 .0 .1) ∙ not-first 50 (code.LBrace ∷ code.LParen ∷ code.Identifier ∷ []) k (at-match .match .rest .0 .0 .0 .1) ∙ not-first 40 (code.LParen ∷ code.Identifier ∷ []) k (at-match .match .rest .0 .0 .1) ∙ not-first 36 (code.Identifier ∷ []) k (at-match .match .rest .0 .1) ∙ not-first 21 [] k (at-match .match .rest .1) in
       let e = of-first literals (code.LBracket ∷ Tee ∷ code.LBrace ∷ code.LParen ∷ code.Identifier ∷ []) (symbolAt (at-start .args .src .now) (at-start .args .toks .now) (at-start .args .s .at .0)) n (at-start .pre .1 .1 .seen) in
-      record { comes = λ vs. or-first h e (tok-then h e (act-literal (rw (at-past .past6 .ensures) at (at-put-literal .put-literal .ensures)))) }
+      record { comes = λ vs. or-first h e (tok-then h e (act-literal (rw (at-put-literal .before .past6 .ensures) at (at-put-literal .put-literal .ensures)))) }
 
   pub meets : {M : Type 1} → lts.Closed (calls t) (head-at t) reads.Post M
   meets = lts.spec (calls t) (head-at t) reads.Post symbol-at-requires past-requires shown-requires past-requires-2 tee-requires past-requires-3 braces-requires past-requires-4 round-requires past-requires-5 put-named-requires past-requires-6 put-literal-requires same-length returns same-length-2 returns-2 same-length-3 returns-3 same-length-4 returns-4 same-length-5 returns-5 same-length-6 returns-6

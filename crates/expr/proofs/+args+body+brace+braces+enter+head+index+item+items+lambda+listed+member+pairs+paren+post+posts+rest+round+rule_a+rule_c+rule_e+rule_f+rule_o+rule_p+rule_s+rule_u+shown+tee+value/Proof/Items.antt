@@ -1,14 +1,14 @@
 -- `expr::items`, a member of the cycle.
 -- Assumes nothing.
+use Rattle.expr.proofs.Tested.{after-e}
 use Rattle.joint.proofs.Loops.{ready-of}
 use Rattle.joint.proofs.Ends.{list-last, none-last, one-then}
 use Rattle.joint.proofs.Chain.{called, part-then, part-stop, or-first, or-next}
-use Rattle.joint.proofs.Bounds.{after-rule, spares-e}
-use Rattle.lookahead.proofs.Tokens.{before-eof}
+use Rattle.leaves.specs.Contract.{Begun}
+use Rattle.pyhyeon.specs.Rules.{E}
 use Rattle.lookahead.proofs.Tests.{learnt}
-use Rattle.pyhyeon.specs.Tables.{first, firstE, rank}
+use Rattle.pyhyeon.specs.Tables.{first, firstE}
 use Rattle.grammar.specs.Descent.{null, begins}
-use mathlib.Core.Path.{refl}
 use borrow.Author.Needs.{needs}
 use native.Mathlib.Omega.{arith}
 use Prim.Native.Nat.{ℕ}
@@ -25,41 +25,34 @@ calls t = (symbol-at-reads.Asked, symbol-at-reads.Learnt, begins-e-reads.Asked, 
 
 module _ (t : ℕ) where
   symbol-at-requires : lts.Need-symbol-at-requires (calls t) (items-at t) reads.Post
-  symbol-at-requires c κs =
-      let at-start = c .before .before .before .before in
-      (at-start .pre .1 .tokens, at-start .pre .1 .here)
+  symbol-at-requires c κs = search needs
 
   begins-e-requires : lts.Need-begins-e-requires (calls t) (items-at t) reads.Post
   begins-e-requires c κs = search needs
 
+  -- where an E begins
+  module _ (c : lts.Then1 (calls t) (items-at t) reads.Post) where
+    abbrev start : lts.Start (calls t) (items-at t) reads.Post
+    start = c .before .before .before .before .before .before .before
+
+    begun : Begun (start .args .src .now) (start .args .toks .now) (start .args .s) E
+    unfolding first
+    begun = record { seen = learnt firstE (c .if1 .taken) (c .before .begins-e .ensures) (c .before .before .symbol-at .ensures) }
+
   rule-e-requires : lts.Need-rule-e-requires (calls t) (items-at t) reads.Post
-  unfolding first
-  rule-e-requires c κs =
-      let at-if1 = c .before in
-      let at-begins-e = at-if1 .before in
-      let at-symbol-at = at-begins-e .before in
-      let at-start = at-symbol-at .before .before .before .before .before in
-      let r = at-start .pre .1 in
-      let b = learnt firstE (at-if1 .if1 .taken) (at-begins-e .begins-e .ensures) (at-symbol-at .symbol-at .ensures) in
-      (omega arith, (ready-of (r .tokens) (omega arith), record { seen = b }))
+  rule-e-requires c κs = (omega arith, (ready-of (start (c .before) .pre .1 .tokens) (omega arith), begun (c .before)))
 
   enum-known-inner : lts.Need-enum-known-inner (calls t) (items-at t) reads.Post
   enum-known-inner c = search needs
 
   rest-requires : lts.Need-rest-requires (calls t) (items-at t) reads.Post
-  unfolding first rank
   rest-requires c κs =
       let at-inner = c .before .before in
       let at-rule-e = at-inner .before .before .before .before in
       let at-if1 = at-rule-e .before .before in
-      let at-begins-e = at-if1 .before in
-      let at-symbol-at = at-begins-e .before in
-      let at-start = at-symbol-at .before .before .before .before .before in
-      let r = at-start .pre .1 in
-      let b = learnt firstE (at-if1 .if1 .taken) (at-begins-e .begins-e .ensures) (at-symbol-at .symbol-at .ensures) in
-      let lt = before-eof firstE refl (r .tokens) (r .here) b in
-      let g = after-rule _ _ (r .tokens) spares-e lt (at-rule-e .rule-e .ensures) (at-inner .inner .given .1) in
-      (omega arith, (ready-of (r .tokens) (omega arith), (g .node, g .node)))
+      let at-start = start at-if1 in
+      let g = after-e (at-start .pre .1) (begun at-if1) (at-rule-e .rule-e .ensures) (at-inner .inner .given .1) in
+      (omega arith, (ready-of (at-start .pre .1 .tokens) (omega arith), (g .node, g .node)))
 
   enum-known-more : lts.Need-enum-known-more (calls t) (items-at t) reads.Post
   enum-known-more c = search needs
@@ -81,13 +74,10 @@ module _ (t : ℕ) where
       let at-inner = at-rest .before .before .before in
       let at-rule-e = at-inner .before .before .before .before in
       let at-if1 = at-rule-e .before .before in
-      let at-begins-e = at-if1 .before in
-      let at-symbol-at = at-begins-e .before in
-      let at-start = at-symbol-at .before .before .before .before .before in
-      let r = at-start .pre .1 in
-      let b = learnt firstE (at-if1 .if1 .taken) (at-begins-e .begins-e .ensures) (at-symbol-at .symbol-at .ensures) in
+      let h = start at-if1 .pre .1 .here in
+      let b = begun at-if1 .seen in
       let d = at-rest .rest .ensures .leads _ _ (at-more .more .given .1) in
-      record { comes = λ vs. or-first (r .here) b (part-then (called (r .here) b (at-rule-e .rule-e .ensures)) (at-inner .inner .given .1) (one-then (d .same _ _ _ _ (list-last (d .ready .used))))) }
+      record { comes = λ vs. or-first h b (part-then (called h b (at-rule-e .rule-e .ensures)) (at-inner .inner .given .1) (one-then (d .same _ _ _ _ (list-last (d .ready .used))))) }
 
   same-length-2 : lts.Need-same-length-2 (calls t) (items-at t) reads.Post
   same-length-2 c = search needs
@@ -100,12 +90,9 @@ module _ (t : ℕ) where
       let at-inner = at-rest .before .before .before in
       let at-rule-e = at-inner .before .before .before .before in
       let at-if1 = at-rule-e .before .before in
-      let at-begins-e = at-if1 .before in
-      let at-symbol-at = at-begins-e .before in
-      let at-start = at-symbol-at .before .before .before .before .before in
-      let r = at-start .pre .1 in
-      let b = learnt firstE (at-if1 .if1 .taken) (at-begins-e .begins-e .ensures) (at-symbol-at .symbol-at .ensures) in
-      record { comes = λ vs. or-first (r .here) b (part-then (called (r .here) b (at-rule-e .rule-e .ensures)) (at-inner .inner .given .1) (one-then (at-rest .rest .ensures .stops _ _ _ (at-more2 .more2 .given .1) _ _ _))) }
+      let h = start at-if1 .pre .1 .here in
+      let b = begun at-if1 .seen in
+      record { comes = λ vs. or-first h b (part-then (called h b (at-rule-e .rule-e .ensures)) (at-inner .inner .given .1) (one-then (at-rest .rest .ensures .stops _ _ _ (at-more2 .more2 .given .1) _ _ _))) }
 
   same-length-3 : lts.Need-same-length-3 (calls t) (items-at t) reads.Post
   same-length-3 c = search needs
@@ -116,21 +103,15 @@ module _ (t : ℕ) where
       let at-inner2 = c .before in
       let at-rule-e = at-inner2 .before .before .before .before in
       let at-if1 = at-rule-e .before .before in
-      let at-begins-e = at-if1 .before in
-      let at-symbol-at = at-begins-e .before in
-      let at-start = at-symbol-at .before .before .before .before .before in
-      let r = at-start .pre .1 in
-      let b = learnt firstE (at-if1 .if1 .taken) (at-begins-e .begins-e .ensures) (at-symbol-at .symbol-at .ensures) in
-      record { comes = λ vs. or-first (r .here) b (part-stop _ (called (r .here) b (at-rule-e .rule-e .ensures)) (at-inner2 .inner2 .given .1)) }
+      let h = start at-if1 .pre .1 .here in
+      let b = begun at-if1 .seen in
+      record { comes = λ vs. or-first h b (part-stop _ (called h b (at-rule-e .rule-e .ensures)) (at-inner2 .inner2 .given .1)) }
 
   returns-4 : lts.Need-returns-4 (calls t) (items-at t) reads.Post
   unfolding first begins null
   returns-4 c =
-      let at-begins-e = c .before in
-      let at-symbol-at = at-begins-e .before in
-      let at-start = at-symbol-at .before .before .before .before .before in
-      let r = at-start .pre .1 in
-      let b = learnt firstE (c .if1 .left) (at-begins-e .begins-e .ensures) (at-symbol-at .symbol-at .ensures) in
+      let r = c .before .before .before .before .before .before .before .pre .1 in
+      let b = learnt firstE (c .if1 .left) (c .before .begins-e .ensures) (c .before .before .symbol-at .ensures) in
       record { comes = λ vs. or-next (r .here) b (none-last (r .used)) }
 
   pub meets : {M : Type 1} → lts.Closed (calls t) (items-at t) reads.Post M

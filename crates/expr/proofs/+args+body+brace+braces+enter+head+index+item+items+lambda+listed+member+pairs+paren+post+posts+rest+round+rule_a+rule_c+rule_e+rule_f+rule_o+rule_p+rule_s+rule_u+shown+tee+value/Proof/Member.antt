@@ -16,9 +16,7 @@ calls t = (item-below t, item.Post, rule-e-below t, rule-e.Post)
 
 module _ (t : ℕ) where
   item-requires : lts.Need-item-requires (calls t) (member-at t) reads.Post
-  item-requires c κs =
-      let at-start = c .before .before .before .before .before in
-      (omega arith, at-start .pre .1)
+  item-requires c κs = search needs
 
   rule-e-requires : lts.Need-rule-e-requires (calls t) (member-at t) reads.Post
   rule-e-requires c κs =
@@ -32,8 +30,7 @@ module _ (t : ℕ) where
   returns : lts.Need-returns (calls t) (member-at t) reads.Post
   returns c =
       let at-item = c .before .before in
-      let at-if1 = at-item .before .before in
-      rw (at-if1 .if1 .taken) (at-item .item .ensures)
+      rw (at-item .before .before .if1 .taken) (at-item .item .ensures)
 
   same-length-2 : lts.Need-same-length-2 (calls t) (member-at t) reads.Post
   same-length-2 c = search needs

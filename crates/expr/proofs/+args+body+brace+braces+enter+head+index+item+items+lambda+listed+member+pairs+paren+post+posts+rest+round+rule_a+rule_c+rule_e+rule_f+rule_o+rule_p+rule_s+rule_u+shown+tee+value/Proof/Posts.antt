@@ -5,10 +5,10 @@ use Rattle.pyhyeon.specs.Rules.{postfix}
 use Rattle.pyhyeon.specs.Machine.{node}
 use Prim.Native.Nat.{_-_}
 use Rattle.expr.proofs.Low.{low-postfix, bounded-postfix}
+use Rattle.expr.proofs.Tested.{met}
 use Rattle.joint.proofs.Loops.{Going, begin, ready-of}
 use Rattle.joint.proofs.Chain.{flat-then, flat-stop, turn-on, turn-end}
 use Rattle.joint.proofs.Bounds.{after-part}
-use Rattle.lookahead.proofs.Tokens.{before-eof}
 use Rattle.lookahead.proofs.Tests.{learnt}
 use Rattle.token.specs.Code as code
 use Rattle.grammar.specs.Descent.{null, begins}
@@ -41,10 +41,7 @@ module _ (t : ℕ) where
       begin (at-start .pre .1 .0) (at-start .pre .1 .1)
 
   symbol-at-requires : lts.Need-symbol-at-requires (calls t) (posts-at t) reads.Post Inv-loop μ-loop
-  symbol-at-requires c κs =
-      let at-loop = c .before in
-      let i = at-loop .loop .inv in
-      (i .ready .tokens, i .ready .here)
+  symbol-at-requires c κs = search needs
 
   begins-postfix-requires : lts.Need-begins-postfix-requires (calls t) (posts-at t) reads.Post Inv-loop μ-loop
   begins-postfix-requires c κs = search needs
@@ -52,11 +49,8 @@ module _ (t : ℕ) where
   post-requires : lts.Need-post-requires (calls t) (posts-at t) reads.Post Inv-loop μ-loop
   post-requires c κs =
       let at-if1 = c .before in
-      let at-begins-postfix = at-if1 .before in
-      let at-symbol-at = at-begins-postfix .before in
-      let at-loop = at-symbol-at .before .before in
-      let i = at-loop .loop .inv in
-      let e = learnt (code.Dot ∷ code.LParen ∷ code.LBracket ∷ []) (at-if1 .if1 .taken) (at-begins-postfix .begins-postfix .ensures) (at-symbol-at .symbol-at .ensures) in
+      let i = at-if1 .before .before .before .before .loop .inv in
+      let e = learnt (code.Dot ∷ code.LParen ∷ code.LBracket ∷ []) (at-if1 .if1 .taken) (at-if1 .before .begins-postfix .ensures) (at-if1 .before .before .symbol-at .ensures) in
       (omega arith, (i .ready, (i .node, e)))
 
   enum-known-more : lts.Need-enum-known-more (calls t) (posts-at t) reads.Post Inv-loop μ-loop
@@ -67,13 +61,9 @@ module _ (t : ℕ) where
       let at-more = c .before in
       let at-post = at-more .before .before .before .before in
       let at-if1 = at-post .before .before in
-      let at-begins-postfix = at-if1 .before in
-      let at-symbol-at = at-begins-postfix .before in
-      let at-loop = at-symbol-at .before .before in
-      let i = at-loop .loop .inv in
-      let e = learnt (code.Dot ∷ code.LParen ∷ code.LBracket ∷ []) (at-if1 .if1 .taken) (at-begins-postfix .begins-postfix .ensures) (at-symbol-at .symbol-at .ensures) in
-      let lt = before-eof (code.Dot ∷ code.LParen ∷ code.LBracket ∷ []) refl (i .ready .tokens) (i .ready .here) e in
-      let g = after-part _ _ (i .ready .tokens) _ bounded-postfix lt (i .node) (at-post .post .ensures) (at-more .more .given .1) in
+      let i = at-if1 .before .before .before .before .loop .inv in
+      let m = met (code.Dot ∷ code.LParen ∷ code.LBracket ∷ []) refl refl (i .ready .tokens) (i .ready .here) (at-if1 .if1 .taken) (at-if1 .before .begins-postfix .ensures) (at-if1 .before .before .symbol-at .ensures) in
+      let g = after-part _ _ (i .ready .tokens) _ bounded-postfix (omega arith) (i .node) (at-post .post .ensures) (at-more .more .given .1) in
       omega arith
 
   loop-again : lts.Need-loop-again (calls t) (posts-at t) reads.Post Inv-loop μ-loop
@@ -82,20 +72,16 @@ module _ (t : ℕ) where
       let at-more = c .before in
       let at-post = at-more .before .before .before .before in
       let at-if1 = at-post .before .before in
-      let at-begins-postfix = at-if1 .before in
-      let at-symbol-at = at-begins-postfix .before in
-      let at-loop = at-symbol-at .before .before in
-      let i = at-loop .loop .inv in
-      let e = learnt (code.Dot ∷ code.LParen ∷ code.LBracket ∷ []) (at-if1 .if1 .taken) (at-begins-postfix .begins-postfix .ensures) (at-symbol-at .symbol-at .ensures) in
-      let lt = before-eof (code.Dot ∷ code.LParen ∷ code.LBracket ∷ []) refl (i .ready .tokens) (i .ready .here) e in
-      let g = after-part _ _ (i .ready .tokens) _ bounded-postfix lt (i .node) (at-post .post .ensures) (at-more .more .given .1) in
+      let i = at-if1 .before .before .before .before .loop .inv in
+      let m = met (code.Dot ∷ code.LParen ∷ code.LBracket ∷ []) refl refl (i .ready .tokens) (i .ready .here) (at-if1 .if1 .taken) (at-if1 .before .begins-postfix .ensures) (at-if1 .before .before .symbol-at .ensures) in
+      let g = after-part _ _ (i .ready .tokens) _ bounded-postfix (omega arith) (i .node) (at-post .post .ensures) (at-more .more .given .1) in
       let k = at-post .post .kept .1 .0 in
       record {
         ready = ready-of (i .ready .tokens) (omega arith);
         on = omega arith;
         long = omega arith;
         node = g .node;
-        same = λ vs c. i .same vs (turn-on low-postfix (i .ready .here) e (flat-then (at-post .post .ensures) (at-more .more .given .1) c));
+        same = λ vs c. i .same vs (turn-on low-postfix (m .here) (m .seen) (flat-then (at-post .post .ensures) (at-more .more .given .1) c));
       }
 
   enum-known-more-2 : lts.Need-enum-known-more-2 (calls t) (posts-at t) reads.Post Inv-loop μ-loop
@@ -110,11 +96,8 @@ module _ (t : ℕ) where
       let at-more2 = c .before in
       let at-post = at-more2 .before .before .before .before in
       let at-if1 = at-post .before .before in
-      let at-begins-postfix = at-if1 .before in
-      let at-symbol-at = at-begins-postfix .before in
-      let at-loop = at-symbol-at .before .before in
-      let i = at-loop .loop .inv in
-      let e = learnt (code.Dot ∷ code.LParen ∷ code.LBracket ∷ []) (at-if1 .if1 .taken) (at-begins-postfix .begins-postfix .ensures) (at-symbol-at .symbol-at .ensures) in
+      let i = at-if1 .before .before .before .before .loop .inv in
+      let e = learnt (code.Dot ∷ code.LParen ∷ code.LBracket ∷ []) (at-if1 .if1 .taken) (at-if1 .before .begins-postfix .ensures) (at-if1 .before .before .symbol-at .ensures) in
       record { comes = λ vs. i .same vs (turn-on low-postfix (i .ready .here) e (flat-stop _ _ (at-post .post .ensures) (at-more2 .more2 .given .1))) }
 
   same-length-2 : lts.Need-same-length-2 (calls t) (posts-at t) reads.Post Inv-loop μ-loop
@@ -123,11 +106,8 @@ module _ (t : ℕ) where
   returns-2 : lts.Need-returns-2 (calls t) (posts-at t) reads.Post Inv-loop μ-loop
   unfolding begins null
   returns-2 c =
-      let at-begins-postfix = c .before in
-      let at-symbol-at = at-begins-postfix .before in
-      let at-loop = at-symbol-at .before .before in
-      let i = at-loop .loop .inv in
-      let e = learnt (code.Dot ∷ code.LParen ∷ code.LBracket ∷ []) (c .if1 .left) (at-begins-postfix .begins-postfix .ensures) (at-symbol-at .symbol-at .ensures) in
+      let i = c .before .before .before .before .loop .inv in
+      let e = learnt (code.Dot ∷ code.LParen ∷ code.LBracket ∷ []) (c .if1 .left) (c .before .begins-postfix .ensures) (c .before .before .symbol-at .ensures) in
       record { comes = λ vs. i .same vs (turn-end low-postfix (i .ready .here) e (i .ready .used)) }
 
   pub meets : {M : Type 1} → lts.Closed (calls t) (posts-at t) reads.Post M

@@ -1,9 +1,9 @@
 -- `expr::rule_e`, a member of the cycle.
 -- Assumes nothing.
+use Rattle.expr.proofs.Tested.{met}
 use Rattle.joint.proofs.Loops.{ready-of}
 use Rattle.joint.proofs.Ends.{tok-mark}
 use Rattle.joint.proofs.Chain.{called, or-first, or-next, open-deep, open-room}
-use Rattle.lookahead.proofs.Tokens.{took}
 use Rattle.lookahead.proofs.Tests.{learnt, without}
 use Rattle.pyhyeon.specs.Tables.{joined, first, firstU, opens}
 use Rattle.pyhyeon.specs.Rules.{plain}
@@ -34,9 +34,7 @@ module _ (t : ℕ) where
   add-opened c = omega arith
 
   symbol-at-requires : lts.Need-symbol-at-requires (calls t) (rule-e-at t) reads.Post
-  symbol-at-requires c κs =
-      let at-start = c .before .before .before .before .before .before in
-      (at-start .pre .1 .0 .tokens, at-start .pre .1 .0 .here)
+  symbol-at-requires c κs = search needs
 
   is-symbol-requires : lts.Need-is-symbol-requires (calls t) (rule-e-at t) reads.Post
   is-symbol-requires c κs = search needs
@@ -47,30 +45,23 @@ module _ (t : ℕ) where
   lambda-requires : lts.Need-lambda-requires (calls t) (rule-e-at t) reads.Post
   lambda-requires c κs =
       let at-if2 = c .before .before in
-      let at-is-symbol = at-if2 .before in
-      let at-symbol-at = at-is-symbol .before in
-      let at-start = at-symbol-at .before .before .before .before .before .before .before in
+      let at-start = at-if2 .before .before .before .before .before .before .before .before .before in
       let r = at-start .pre .1 .0 in
-      let e = learnt (code.Lambda ∷ []) (at-if2 .if2 .taken) (at-is-symbol .is-symbol .ensures) (at-symbol-at .symbol-at .ensures) in
-      let l = took (code.Lambda ∷ []) refl refl (r .tokens) (r .here) e in
+      let m = met (code.Lambda ∷ []) refl refl (r .tokens) (r .here) (at-if2 .if2 .taken) (at-if2 .before .is-symbol .ensures) (at-if2 .before .before .symbol-at .ensures) in
       (omega arith, (ready-of (r .tokens) (omega arith), omega arith))
 
   rule-o-requires : lts.Need-rule-o-requires (calls t) (rule-e-at t) reads.Post
   unfolding first
   rule-o-requires c κs =
       let at-if2 = c .before in
-      let at-is-symbol = at-if2 .before in
-      let at-symbol-at = at-is-symbol .before in
-      let at-start = at-symbol-at .before .before .before .before .before .before .before in
+      let at-start = at-if2 .before .before .before .before .before .before .before .before .before in
       let r = at-start .pre .1 .0 in
-      let e = learnt (code.Lambda ∷ []) (at-if2 .if2 .left) (at-is-symbol .is-symbol .ensures) (at-symbol-at .symbol-at .ensures) in
+      let e = learnt (code.Lambda ∷ []) (at-if2 .if2 .left) (at-if2 .before .is-symbol .ensures) (at-if2 .before .before .symbol-at .ensures) in
       (omega arith, (ready-of (r .tokens) (omega arith), record { seen = without code.Lambda firstU (symbolAt (at-start .args .src .now) (at-start .args .toks .now) (at-start .args .s .at .0)) e (at-start .pre .1 .1 .seen) }))
 
   returns : lts.Need-returns (calls t) (rule-e-at t) reads.Post
   unfolding opens
-  returns c =
-      let at-start = c .before .before .before .before .before in
-      open-deep refl (at-start .pre .1 .0 .used) (c .if1 .taken)
+  returns c = open-deep refl (c .before .before .before .before .before .pre .1 .0 .used) (c .if1 .taken)
 
   same-length : lts.Need-same-length (calls t) (rule-e-at t) reads.Post
   same-length c = search needs
@@ -80,12 +71,9 @@ module _ (t : ℕ) where
   returns-2 c =
       let at-lambda = c .before .before in
       let at-if2 = at-lambda .before .before .before in
-      let at-is-symbol = at-if2 .before in
-      let at-symbol-at = at-is-symbol .before in
-      let at-if1 = at-symbol-at .before .before in
-      let at-start = at-if1 .before .before .before .before .before in
-      let r = at-start .pre .1 .0 in
-      let e = learnt (code.Lambda ∷ []) (at-if2 .if2 .taken) (at-is-symbol .is-symbol .ensures) (at-symbol-at .symbol-at .ensures) in
+      let at-if1 = at-if2 .before .before .before .before in
+      let r = at-if1 .before .before .before .before .before .pre .1 .0 in
+      let e = learnt (code.Lambda ∷ []) (at-if2 .if2 .taken) (at-if2 .before .is-symbol .ensures) (at-if2 .before .before .symbol-at .ensures) in
       open-room refl (at-if1 .if1 .left) (λ vs. or-first (r .here) e (tok-mark (r .here) e (at-lambda .lambda .ensures .comes vs)))
 
   same-length-2 : lts.Need-same-length-2 (calls t) (rule-e-at t) reads.Post
@@ -96,12 +84,10 @@ module _ (t : ℕ) where
   returns-3 c =
       let at-rule-o = c .before .before in
       let at-if2 = at-rule-o .before .before in
-      let at-is-symbol = at-if2 .before in
-      let at-symbol-at = at-is-symbol .before in
-      let at-if1 = at-symbol-at .before .before in
+      let at-if1 = at-if2 .before .before .before .before in
       let at-start = at-if1 .before .before .before .before .before in
       let r = at-start .pre .1 .0 in
-      let e = learnt (code.Lambda ∷ []) (at-if2 .if2 .left) (at-is-symbol .is-symbol .ensures) (at-symbol-at .symbol-at .ensures) in
+      let e = learnt (code.Lambda ∷ []) (at-if2 .if2 .left) (at-if2 .before .is-symbol .ensures) (at-if2 .before .before .symbol-at .ensures) in
       open-room refl (at-if1 .if1 .left) (λ vs. or-next (r .here) e (called (r .here) (without code.Lambda firstU (symbolAt (at-start .args .src .now) (at-start .args .toks .now) (at-start .args .s .at .0)) e (at-start .pre .1 .1 .seen)) (at-rule-o .rule-o .ensures) .comes vs))
 
   pub meets : {M : Type 1} → lts.Closed (calls t) (rule-e-at t) reads.Post M

@@ -53,8 +53,7 @@ module _ (t : ℕ) where
   returns c =
       let at-posts = c .before .before in
       let at-inner = at-posts .before .before .before in
-      let at-head = at-inner .before .before .before .before in
-      open-plain refl (λ vs. part-then (at-head .head .ensures) (at-inner .inner .given .1) (at-posts .posts .ensures .comes vs))
+      open-plain refl (λ vs. part-then (at-inner .before .before .before .before .head .ensures) (at-inner .inner .given .1) (at-posts .posts .ensures .comes vs))
 
   same-length-2 : lts.Need-same-length-2 (calls t) (rule-f-at t) reads.Post
   same-length-2 c = search needs
@@ -63,8 +62,7 @@ module _ (t : ℕ) where
   unfolding joined opens
   returns-2 c =
       let at-inner2 = c .before in
-      let at-head = at-inner2 .before .before .before .before in
-      open-plain refl (λ vs. part-stop vs (at-head .head .ensures) (at-inner2 .inner2 .given .1))
+      open-plain refl (λ vs. part-stop vs (at-inner2 .before .before .before .before .head .ensures) (at-inner2 .inner2 .given .1))
 
   pub meets : {M : Type 1} → lts.Closed (calls t) (rule-f-at t) reads.Post M
   meets = lts.spec (calls t) (rule-f-at t) reads.Post add-opened head-requires enum-known-inner posts-requires enum-known-inner-2 same-length returns same-length-2 returns-2

@@ -28,27 +28,21 @@ module _ (t : ℕ) where
   add-opened c = omega arith
 
   skip-signs-requires : lts.Need-skip-signs-requires (calls t) (rule-u-at t) reads.Post
-  skip-signs-requires c κs =
-      let at-start = c .before .before .before .before .before in
-      (at-start .pre .1 .0 .tokens, at-start .pre .1 .0 .here)
+  skip-signs-requires c κs = search needs
 
   behind-signs-requires : lts.Need-behind-signs-requires (calls t) (rule-u-at t) reads.Post
   unfolding first
-  behind-signs-requires c κs =
-      let at-start = c .before .before .before .before .before .before in
-      (at-start .pre .1 .0 .tokens, (at-start .pre .1 .1 .seen, c .skip-signs .ensures))
+  behind-signs-requires c κs = search needs
 
   rule-f-requires : lts.Need-rule-f-requires (calls t) (rule-u-at t) reads.Post
   unfolding first
   rule-f-requires c κs =
       let at-if1 = c .before in
-      let at-behind-signs = at-if1 .before in
-      let at-skip-signs = at-behind-signs .before in
-      let at-start = at-skip-signs .before .before .before .before .before .before in
+      let at-start = at-if1 .before .before .before .before .before .before .before .before in
       let r = at-start .pre .1 .0 in
-      let k = at-skip-signs .skip-signs .ensures in
+      let k = at-if1 .before .before .skip-signs .ensures in
       let q = run-text signSet refl refl (r .tokens) k in
-      let e = sym (at-behind-signs .behind-signs .ensures) ∙ at-if1 .if1 .taken in
+      let e = sym (at-if1 .before .behind-signs .ensures) ∙ at-if1 .if1 .taken in
       (omega arith, (ready-of (r .tokens) (omega arith), record { seen = e }))
 
   enum-known-inner : lts.Need-enum-known-inner (calls t) (rule-u-at t) reads.Post
@@ -60,17 +54,13 @@ module _ (t : ℕ) where
       let at-inner = c .before .before in
       let at-rule-f = at-inner .before .before .before .before in
       let at-if1 = at-rule-f .before .before in
-      let at-behind-signs = at-if1 .before in
-      let at-skip-signs = at-behind-signs .before in
-      let at-start = at-skip-signs .before .before .before .before .before .before in
+      let at-start = at-if1 .before .before .before .before .before .before .before .before in
       let r = at-start .pre .1 .0 in
-      let k = at-skip-signs .skip-signs .ensures in
-      let e = sym (at-behind-signs .behind-signs .ensures) ∙ at-if1 .if1 .taken in
+      let k = at-if1 .before .before .skip-signs .ensures in
+      let e = sym (at-if1 .before .behind-signs .ensures) ∙ at-if1 .if1 .taken in
       let lt = before-eof firstF refl (r .tokens) (k .inside) e in
       let g = after-rule _ _ (r .tokens) spares-f lt (at-rule-f .rule-f .ensures) (at-inner .inner .given .1) in
-      let k₁ = at-rule-f .rule-f .kept .1 .1 .0 in
-      let r₁ = r .nodes in
-      omega (arith, r .nodes, r .room, r .tokens .few, k .order, g .on, g .nodes, g .here)
+      omega (arith, at-rule-f .rule-f .kept .1 .1 .0, r .nodes, r .room, r .tokens .few, k .order, g .on, g .nodes, g .here)
 
   enum-known-inner-2 : lts.Need-enum-known-inner-2 (calls t) (rule-u-at t) reads.Post
   enum-known-inner-2 c = search needs
@@ -85,12 +75,9 @@ module _ (t : ℕ) where
       let at-inner = at-wrap .before .before .before in
       let at-rule-f = at-inner .before .before .before .before in
       let at-if1 = at-rule-f .before .before in
-      let at-behind-signs = at-if1 .before in
-      let at-skip-signs = at-behind-signs .before in
-      let at-start = at-skip-signs .before .before .before .before .before .before in
-      let r = at-start .pre .1 .0 in
-      let k = at-skip-signs .skip-signs .ensures in
-      let e = sym (at-behind-signs .behind-signs .ensures) ∙ at-if1 .if1 .taken in
+      let r = at-if1 .before .before .before .before .before .before .before .before .pre .1 .0 in
+      let k = at-if1 .before .before .skip-signs .ensures in
+      let e = sym (at-if1 .before .behind-signs .ensures) ∙ at-if1 .if1 .taken in
       let lt = before-eof firstF refl (r .tokens) (k .inside) e in
       let g = after-rule _ _ (r .tokens) spares-f lt (at-rule-f .rule-f .ensures) (at-inner .inner .given .1) in
       open-plain refl (λ vs. signs-then (signs-pass k (part-then (called (k .inside) e (at-rule-f .rule-f .ensures)) (at-inner .inner .given .1) (act-wrapped (g .used) (at-wrap .wrap .ensures _)))))
@@ -104,21 +91,16 @@ module _ (t : ℕ) where
       let at-inner2 = c .before in
       let at-rule-f = at-inner2 .before .before .before .before in
       let at-if1 = at-rule-f .before .before in
-      let at-behind-signs = at-if1 .before in
-      let at-skip-signs = at-behind-signs .before in
-      let k = at-skip-signs .skip-signs .ensures in
-      let e = sym (at-behind-signs .behind-signs .ensures) ∙ at-if1 .if1 .taken in
+      let k = at-if1 .before .before .skip-signs .ensures in
+      let e = sym (at-if1 .before .behind-signs .ensures) ∙ at-if1 .if1 .taken in
       open-plain refl (λ vs. signs-then (signs-pass k (part-stop _ (called (k .inside) e (at-rule-f .rule-f .ensures)) (at-inner2 .inner2 .given .1))))
 
   returns-3 : lts.Need-returns-3 (calls t) (rule-u-at t) reads.Post
   unfolding joined plain first opens
   returns-3 c =
-      let at-behind-signs = c .before in
-      let at-skip-signs = at-behind-signs .before in
-      let at-start = at-skip-signs .before .before .before .before .before .before in
-      let r = at-start .pre .1 .0 in
-      let k = at-skip-signs .skip-signs .ensures in
-      let e = sym (at-behind-signs .behind-signs .ensures) ∙ c .if1 .left in
+      let r = c .before .before .before .before .before .before .before .before .pre .1 .0 in
+      let k = c .before .before .skip-signs .ensures in
+      let e = sym (c .before .behind-signs .ensures) ∙ c .if1 .left in
       open-plain refl (λ vs. signs-then (signs-pass k (part-stop _ (not-called (k .inside) (r .used ∙ sym (run-text signSet refl refl (r .tokens) k)) e) refl)))
 
   pub meets : {M : Type 1} → lts.Closed (calls t) (rule-u-at t) reads.Post M

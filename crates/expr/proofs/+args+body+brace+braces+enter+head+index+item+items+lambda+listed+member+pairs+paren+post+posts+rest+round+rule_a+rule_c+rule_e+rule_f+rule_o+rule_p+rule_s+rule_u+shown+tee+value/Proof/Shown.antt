@@ -18,10 +18,7 @@ calls t = (items-below t, items.Post, shut-reads.Asked, shut-reads.Learnt)
 
 module _ (t : ℕ) where
   items-requires : lts.Need-items-requires (calls t) (shown-at t) reads.Post
-  items-requires c κs =
-      let at-start = c .before .before .before .before in
-      let r = at-start .pre .1 .0 in
-      (omega arith, r)
+  items-requires c κs = search needs
 
   enum-known-inner : lts.Need-enum-known-inner (calls t) (shown-at t) reads.Post
   enum-known-inner c = search needs
@@ -45,8 +42,7 @@ module _ (t : ℕ) where
   returns c =
       let at-shut = c .before .before in
       let at-inner = at-shut .before .before .before in
-      let at-items = at-inner .before .before .before .before in
-      record { comes = λ vs. part-then (at-items .items .ensures) (at-inner .inner .given .1) (at-shut .shut .ensures .comes vs) }
+      record { comes = λ vs. part-then (at-inner .before .before .before .before .items .ensures) (at-inner .inner .given .1) (at-shut .shut .ensures .comes vs) }
 
   same-length-2 : lts.Need-same-length-2 (calls t) (shown-at t) reads.Post
   same-length-2 c = search needs
@@ -54,8 +50,7 @@ module _ (t : ℕ) where
   returns-2 : lts.Need-returns-2 (calls t) (shown-at t) reads.Post
   returns-2 c =
       let at-inner2 = c .before in
-      let at-items = at-inner2 .before .before .before .before in
-      record { comes = λ vs. part-stop _ (at-items .items .ensures) (at-inner2 .inner2 .given .1) }
+      record { comes = λ vs. part-stop _ (at-inner2 .before .before .before .before .items .ensures) (at-inner2 .inner2 .given .1) }
 
   pub meets : {M : Type 1} → lts.Closed (calls t) (shown-at t) reads.Post M
   meets = lts.spec (calls t) (shown-at t) reads.Post items-requires enum-known-inner shut-requires enum-known-inner-2 same-length returns same-length-2 returns-2

@@ -5,12 +5,12 @@ use Rattle.grammar.specs.Grammar.{tail}
 use Rattle.token.specs.Code.{Comma}
 use Rattle.lookahead.specs.Tokens.{eofAt}
 use Rattle.pyhyeon.specs.Rules.{names, more}
-use Prim.Native.Nat.{ℕ, _-_}
+use Prim.Native.Nat.{ℕ, _+_, _-_}
 use Rattle.expr.proofs.Low.{low-names}
+use Rattle.expr.proofs.Tested.{Met, met}
 use Rattle.joint.proofs.Loops.{Listing, begin-list, ready-of}
 use Rattle.joint.proofs.Ends.{list-last, wrote-then, one-then, changed-then}
 use Rattle.joint.proofs.Chain.{tok-then, flat, list-on, list-shut, list-end}
-use Rattle.lookahead.proofs.Tokens.{took}
 use Rattle.lookahead.proofs.Tests.{learnt}
 use Rattle.token.specs.Code as code
 use Rattle.grammar.specs.Descent.{null, begins}
@@ -41,85 +41,73 @@ symbol-at-requires c κs =
 is-symbol-requires : tie.Need-is-symbol-requires Inv-loop μ-loop
 is-symbol-requires c κs = search needs
 
-add-t : tie.Need-add-t Inv-loop μ-loop
-add-t c =
-    let at-loop = c .before .before .before .before .before in
-    let i = at-loop .loop .inv 0 in
+past-requires : tie.Need-past-requires Inv-loop μ-loop
+past-requires c κs =
+    let i = c .before .before .before .before .loop .inv 0 in
     omega arith
 
+-- where a comma stands
+module _ (c : tie.Then1 Inv-loop μ-loop) where
+  abbrev turn : tie.At-loop Inv-loop μ-loop
+  turn = c .before .before .before .before
+
+  abbrev start : tie.Start Inv-loop μ-loop
+  start = turn .before .before .before .before
+
+  comma : Met (start .args .src .now) (start .args .toks .now) (code.Comma ∷ []) (turn .loop .st .at .0)
+  comma =
+      let r = turn .loop .inv 0 .ready in
+      met (code.Comma ∷ []) refl refl (r .tokens) (r .here) (c .if1 .taken) (c .before .is-symbol .ensures) (c .before .before .symbol-at .ensures)
+
+-- where a name stands behind it
+module _ (c : tie.Then2 Inv-loop μ-loop) where
+  abbrev passed : tie.After-past Inv-loop μ-loop
+  passed = c .before .before .before .before
+
+  named : Met (start (passed .before) .args .src .now) (start (passed .before) .args .toks .now) names (turn (passed .before) .loop .st .at .0 + 1)
+  named = met names refl refl (turn (passed .before) .loop .inv 0 .ready .tokens) (comma (passed .before) .inside) (c .if2 .taken) (c .before .is-name .ensures) (rw (passed .past .ensures) at (c .before .before .symbol-at2 .ensures))
+
 symbol-at-requires-2 : tie.Need-symbol-at-requires-2 Inv-loop μ-loop
-symbol-at-requires-2 c κs =
-    let at-if1 = c .before in
-    let at-is-symbol = at-if1 .before in
-    let at-symbol-at = at-is-symbol .before in
-    let at-loop = at-symbol-at .before .before in
-    let i = at-loop .loop .inv 0 in
-    let e = learnt (code.Comma ∷ []) (at-if1 .if1 .taken) (at-is-symbol .is-symbol .ensures) (at-symbol-at .symbol-at .ensures) in
-    let l = took (code.Comma ∷ []) refl refl (i .ready .tokens) (i .ready .here) e in
-    (i .ready .tokens, l .inside)
+symbol-at-requires-2 c κs = rw (c .before .past .ensures) (turn (c .before .before) .loop .inv 0 .ready .tokens, comma (c .before .before) .inside)
 
 is-name-requires : tie.Need-is-name-requires Inv-loop μ-loop
 is-name-requires c κs = search needs
 
-add-u : tie.Need-add-u Inv-loop μ-loop
-add-u c =
-    let at-loop = c .before .before .before .before .before .before .before .before in
-    let i = at-loop .loop .inv 0 in
-    omega arith
+past-requires-2 : tie.Need-past-requires-2 Inv-loop μ-loop
+past-requires-2 c κs =
+    let at-past = c .before .before .before .before .before in
+    let i = turn (at-past .before) .loop .inv 0 in
+    rw (at-past .past .ensures) (omega arith)
 
 put-named-requires : tie.Need-put-named-requires Inv-loop μ-loop
 put-named-requires c κs =
-    let at-if2 = c .before in
-    let at-is-name = at-if2 .before in
-    let at-symbol-at2 = at-is-name .before in
-    let at-if1 = at-symbol-at2 .before .before in
-    let at-is-symbol = at-if1 .before in
-    let at-symbol-at = at-is-symbol .before in
-    let at-loop = at-symbol-at .before .before in
-    let i = at-loop .loop .inv 0 in
-    let e = learnt (code.Comma ∷ []) (at-if1 .if1 .taken) (at-is-symbol .is-symbol .ensures) (at-symbol-at .symbol-at .ensures) in
-    let l = took (code.Comma ∷ []) refl refl (i .ready .tokens) (i .ready .here) e in
-    let n = learnt names (at-if2 .if2 .taken) (at-is-name .is-name .ensures) (at-symbol-at2 .symbol-at2 .ensures) in
-    let m = took names refl refl (i .ready .tokens) (l .inside) n in
-    omega arith
+    let at-if2 = c .before .before in
+    let at-past = passed at-if2 in
+    let i = turn (at-past .before) .loop .inv 0 in
+    let m = comma (at-past .before) in
+    let n = named at-if2 in
+    rw (c .past2 .ensures, at-past .past .ensures) (omega arith)
 
 link-requires : tie.Need-link-requires Inv-loop μ-loop
 link-requires c κs =
     let at-put-named = c .before .before .before .before .before in
-    let at-if2 = at-put-named .before .before in
-    let at-is-name = at-if2 .before in
-    let at-symbol-at2 = at-is-name .before in
-    let at-if1 = at-symbol-at2 .before .before in
-    let at-is-symbol = at-if1 .before in
-    let at-symbol-at = at-is-symbol .before in
-    let at-loop = at-symbol-at .before .before in
-    let at-start = at-loop .before .before .before .before in
-    let i = at-loop .loop .inv 0 in
-    let e = learnt (code.Comma ∷ []) (at-if1 .if1 .taken) (at-is-symbol .is-symbol .ensures) (at-symbol-at .symbol-at .ensures) in
-    let l = took (code.Comma ∷ []) refl refl (i .ready .tokens) (i .ready .here) e in
-    let n = learnt names (at-if2 .if2 .taken) (at-is-name .is-name .ensures) (at-symbol-at2 .symbol-at2 .ensures) in
-    let m = took names refl refl (i .ready .tokens) (l .inside) n in
-    let w = at-put-named .put-named .ensures (at-start .args .src .now) in
-    let k = at-put-named .put-named .kept .1 .0 in
-    rw (w .after) (omega arith)
+    let at-if2 = at-put-named .before .before .before in
+    let at-past = passed at-if2 in
+    let i = turn (at-past .before) .loop .inv 0 in
+    let m = comma (at-past .before) in
+    let n = named at-if2 in
+    let w = rw (at-put-named .before .past2 .ensures, at-past .past .ensures) at (at-put-named .put-named .ensures []) in
+    rw (w .after) (omega (arith, at-put-named .put-named .kept .1 .0))
 
 loop-less : tie.Need-loop-less Inv-loop μ-loop
 loop-less c =
     let at-put-named = c .before .before .before .before .before .before .before .before in
-    let at-if2 = at-put-named .before .before in
-    let at-is-name = at-if2 .before in
-    let at-symbol-at2 = at-is-name .before in
-    let at-if1 = at-symbol-at2 .before .before in
-    let at-is-symbol = at-if1 .before in
-    let at-symbol-at = at-is-symbol .before in
-    let at-loop = at-symbol-at .before .before in
-    let at-start = at-loop .before .before .before .before in
-    let i = at-loop .loop .inv 0 in
-    let e = learnt (code.Comma ∷ []) (at-if1 .if1 .taken) (at-is-symbol .is-symbol .ensures) (at-symbol-at .symbol-at .ensures) in
-    let l = took (code.Comma ∷ []) refl refl (i .ready .tokens) (i .ready .here) e in
-    let n = learnt names (at-if2 .if2 .taken) (at-is-name .is-name .ensures) (at-symbol-at2 .symbol-at2 .ensures) in
-    let m = took names refl refl (i .ready .tokens) (l .inside) n in
-    let w = at-put-named .put-named .ensures (at-start .args .src .now) in
+    let at-if2 = at-put-named .before .before .before in
+    let at-past = passed at-if2 in
+    let i = turn (at-past .before) .loop .inv 0 in
+    let m = comma (at-past .before) in
+    let n = named at-if2 in
+    let w = rw (at-put-named .before .past2 .ensures, at-past .past .ensures) at (at-put-named .put-named .ensures []) in
     rw (w .after) (omega arith)
 
 loop-again : tie.Need-loop-again Inv-loop μ-loop
@@ -127,20 +115,12 @@ unfolding begins null
 loop-again c =
     let at-link = c .before .before in
     let at-put-named = at-link .before .before .before .before .before .before in
-    let at-if2 = at-put-named .before .before in
-    let at-is-name = at-if2 .before in
-    let at-symbol-at2 = at-is-name .before in
-    let at-if1 = at-symbol-at2 .before .before in
-    let at-is-symbol = at-if1 .before in
-    let at-symbol-at = at-is-symbol .before in
-    let at-loop = at-symbol-at .before .before in
-    let at-start = at-loop .before .before .before .before in
-    let i = at-loop .loop .inv 0 in
-    let e = learnt (code.Comma ∷ []) (at-if1 .if1 .taken) (at-is-symbol .is-symbol .ensures) (at-symbol-at .symbol-at .ensures) in
-    let l = took (code.Comma ∷ []) refl refl (i .ready .tokens) (i .ready .here) e in
-    let n = learnt names (at-if2 .if2 .taken) (at-is-name .is-name .ensures) (at-symbol-at2 .symbol-at2 .ensures) in
-    let m = took names refl refl (i .ready .tokens) (l .inside) n in
-    let w = at-put-named .put-named .ensures (at-start .args .src .now) in
+    let at-if2 = at-put-named .before .before .before in
+    let at-past = at-if2 .before .before .before .before in
+    let i = turn (at-past .before) .loop .inv 0 in
+    let m = comma (at-past .before) in
+    let n = named at-if2 in
+    let w = rw (at-put-named .before .past2 .ensures, at-past .past .ensures) at (at-put-named .put-named .ensures (start (at-past .before) .args .src .now)) in
     let k = at-put-named .put-named .kept .1 .0 in
     let k₂ = at-link .link .kept .0 in
     λ room. record {
@@ -150,44 +130,34 @@ loop-again c =
       spare = rw (w .after) (omega arith);
       long = omega arith;
       node = rw (w .after) (omega (arith, w .node));
-      same = λ out q vs ws c. at-loop .loop .inv room .same out q vs ws (list-on low-names (l .inside) e n (flat (tok-then (l .inside) n (wrote-then w (one-then (changed-then ws (at-link .link .ensures _ _ _ _) c))))));
+      same = λ out q vs ws c. turn (at-past .before) .loop .inv room .same out q vs ws (list-on low-names (m .inside) (m .seen) (n .seen) (flat (tok-then (m .inside) (n .seen) (wrote-then w (one-then (changed-then ws (at-link .link .ensures _ _ _ _) c))))));
     }
 
 same-length : tie.Need-same-length Inv-loop μ-loop
 same-length c =
-    let at-loop = c .before .before .before .before .before .before .before .before in
-    let i = at-loop .loop .inv 0 in
+    let i = c .before .before .before .before .before .before .before .before .before .loop .inv 0 in
     omega arith
 
 returns : tie.Need-returns Inv-loop μ-loop
 unfolding begins null
 returns c =
-    let at-is-name = c .before in
-    let at-symbol-at2 = at-is-name .before in
-    let at-if1 = at-symbol-at2 .before .before in
-    let at-is-symbol = at-if1 .before in
-    let at-symbol-at = at-is-symbol .before in
-    let at-loop = at-symbol-at .before .before in
-    let i = at-loop .loop .inv 0 in
-    let e = learnt (code.Comma ∷ []) (at-if1 .if1 .taken) (at-is-symbol .is-symbol .ensures) (at-symbol-at .symbol-at .ensures) in
-    let l = took (code.Comma ∷ []) refl refl (i .ready .tokens) (i .ready .here) e in
-    let n = learnt names (c .if2 .left) (at-is-name .is-name .ensures) (at-symbol-at2 .symbol-at2 .ensures) in
-    λ room. record { comes = λ vs. at-loop .loop .inv room .same _ _ _ _ (list-shut low-names (l .inside) e n (list-last (i .ready .used ∙ sym (l .text)))) }
+    let at-past = c .before .before .before .before in
+    let i = turn (at-past .before) .loop .inv 0 in
+    let m = comma (at-past .before) in
+    let n = learnt names (c .if2 .left) (c .before .is-name .ensures) (rw (at-past .past .ensures) at (c .before .before .symbol-at2 .ensures)) in
+    λ room. rw (at-past .past .ensures) (record { comes = λ vs. turn (at-past .before) .loop .inv room .same _ _ _ _ (list-shut low-names (m .inside) (m .seen) n (list-last (i .ready .used ∙ sym (m .text)))) })
 
 same-length-2 : tie.Need-same-length-2 Inv-loop μ-loop
 same-length-2 c =
-    let at-loop = c .before .before .before .before in
-    let i = at-loop .loop .inv 0 in
+    let i = c .before .before .before .before .loop .inv 0 in
     omega arith
 
 returns-2 : tie.Need-returns-2 Inv-loop μ-loop
 unfolding begins null
 returns-2 c =
-    let at-is-symbol = c .before in
-    let at-symbol-at = at-is-symbol .before in
-    let at-loop = at-symbol-at .before .before in
+    let at-loop = c .before .before .before .before in
     let i = at-loop .loop .inv 0 in
-    let e = learnt (code.Comma ∷ []) (c .if1 .left) (at-is-symbol .is-symbol .ensures) (at-symbol-at .symbol-at .ensures) in
+    let e = learnt (code.Comma ∷ []) (c .if1 .left) (c .before .is-symbol .ensures) (c .before .before .symbol-at .ensures) in
     λ room. record { comes = λ vs. at-loop .loop .inv room .same _ _ _ _ (list-end low-names (i .ready .here) e (list-last (i .ready .used))) }
 
 pub names-rest-spec : {M : Type 1} → statement M
@@ -199,10 +169,10 @@ names-rest-spec =
     loop-holds
     symbol-at-requires
     is-symbol-requires
-    add-t
+    past-requires
     symbol-at-requires-2
     is-name-requires
-    add-u
+    past-requires-2
     put-named-requires
     link-requires
     loop-less
