@@ -8,7 +8,7 @@
 ghost use mathlib.Core.Path.{_≡_};
 ghost use mathlib.Core.Bool.{true, false};
 ghost use mathlib.Core.List.{[], _∷_};
-ghost use Prim.Native.Nat.{_+_, _<_};
+ghost use Prim.Native.Nat.{ℕ, _+_, _<_};
 ghost use Rattle.grammar.specs.Sets.{mem};
 ghost use Rattle.grammar.specs.Grammar.{call, many, act, _⨾_, _∕_};
 ghost use Rattle.token.specs.Code.{Eof, String, Dot, LParen, RParen, LBracket};
@@ -466,17 +466,7 @@ fn shown(
 {
     let inner = items(src, toks, tree, left, s);
     match inner {
-        Parsed::Node(first, after) => shut(
-            src,
-            toks,
-            tree,
-            left,
-            opener,
-            close,
-            kind,
-            first,
-            after,
-        ),
+        Parsed::Node(first, after) => shut(src, toks, tree, opener, close, kind, first, after),
         Parsed::Refused(code, after) => Parsed::Refused(code, after),
     }
 }
@@ -486,7 +476,6 @@ fn shut(
     src: &[u8],
     toks: &[u32],
     tree: &mut [u32],
-    left: u32,
     opener: TokenNumber,
     close: u32,
     kind: u32,
@@ -495,7 +484,7 @@ fn shut(
 ) -> Parsed
     requires { ⌜ Ready (now src) (now toks) (now tree) s 1 ⌝ }
     requires { ⌜ (opener .0 < s .at .0) × (mem Eof (close ∷ []) ≡ false) × (mem String (close ∷ []) ≡ false) ⌝ }
-    ensures { λ r. ⌜ Parts (now (src .entry)) (now (toks .entry)) left (closes close kind) (list (first .0) ∷ token (opener .0) ∷ []) a-node s (now (tree .entry)) r (now (tree .exit)) ⌝ }
+    ensures { λ r. ⌜ ((room : ℕ) → Parts (now (src .entry)) (now (toks .entry)) room (closes close kind) (list (first .0) ∷ token (opener .0) ∷ []) a-node s (now (tree .entry)) r (now (tree .exit))) ⌝ }
 {
     let at = s.at;
     if lookahead::is_symbol(lookahead::symbol_at(src, toks, at), close) {
@@ -650,7 +639,7 @@ fn listed(
 {
     let inner = rest(src, toks, tree, left, false, first, first, s);
     match inner {
-        Parsed::Node(head, after) => shut(src, toks, tree, left, opener, close, kind, head, after),
+        Parsed::Node(head, after) => shut(src, toks, tree, opener, close, kind, head, after),
         Parsed::Refused(code, after) => Parsed::Refused(code, after),
     }
 }
@@ -678,7 +667,6 @@ fn pairs(
                     src,
                     toks,
                     tree,
-                    left,
                     opener,
                     token::RBRACE,
                     ast::DICT,
@@ -757,31 +745,25 @@ fn round(
     ensures { λ r. ⌜ Parts (now (src .entry)) (now (toks .entry)) left tables.round (token (opener .0) ∷ []) a-node s (now (tree .entry)) r (now (tree .exit)) ⌝ }
 {
     let at = s.at;
-    if lookahead::begins_e(lookahead::symbol_at(src, toks, at)) {
+    let symbol = lookahead::symbol_at(src, toks, at);
+    if lookahead::begins_e(symbol) {
         let inner = rule_e(src, toks, tree, left, s);
         match inner {
             Parsed::Node(n, after) => paren(src, toks, tree, left, opener, n, after),
             Parsed::Refused(code, after) => Parsed::Refused(code, after),
         }
-    } else if lookahead::is_symbol(lookahead::symbol_at(src, toks, at), token::RPAREN) {
-        unit(src, toks, tree, left, opener, leaves::past(s))
+    } else if lookahead::is_symbol(symbol, token::RPAREN) {
+        unit(src, toks, tree, opener, leaves::past(s))
     } else {
         Parsed::Refused(14, s)
     }
 }
 
 // After `()`: another `)` makes it the empty Tuple.
-fn unit(
-    src: &[u8],
-    toks: &[u32],
-    tree: &mut [u32],
-    left: u32,
-    opener: TokenNumber,
-    s: State,
-) -> Parsed
+fn unit(src: &[u8], toks: &[u32], tree: &mut [u32], opener: TokenNumber, s: State) -> Parsed
     requires { ⌜ Ready (now src) (now toks) (now tree) s 1 ⌝ }
     requires { ⌜ opener .0 < s .at .0 ⌝ }
-    ensures { λ r. ⌜ Parts (now (src .entry)) (now (toks .entry)) left (rules.tk RParen ⨾ act (empty kind.Tuple)) (token (opener .0) ∷ []) a-node s (now (tree .entry)) r (now (tree .exit)) ⌝ }
+    ensures { λ r. ⌜ ((room : ℕ) → Parts (now (src .entry)) (now (toks .entry)) room (rules.tk RParen ⨾ act (empty kind.Tuple)) (token (opener .0) ∷ []) a-node s (now (tree .entry)) r (now (tree .exit))) ⌝ }
 {
     let at = s.at;
     if lookahead::is_symbol(lookahead::symbol_at(src, toks, at), token::RPAREN) {

@@ -36,14 +36,14 @@ returns c =
     let at-start = at-if1 .before .before .before .before .before .before .before in
     let r = at-start .pre .0 in
     let m = met (at-start .args .close ∷ []) (at-start .pre .1 .1) (at-start .pre .1 .2) (r .tokens) (r .here) (at-if1 .if1 .taken) (at-if1 .before .is-symbol .ensures) (at-if1 .before .before .symbol-at .ensures) in
-    record { comes = λ vs. met-wrote (r .used) m (rw (at-put-enclosed .before .past .ensures) at (at-put-enclosed .put-enclosed .ensures (at-start .args .src .now))) }
+    λ room. record { comes = λ vs. met-wrote (r .used) m (rw (at-put-enclosed .before .past .ensures) at (at-put-enclosed .put-enclosed .ensures (at-start .args .src .now))) }
 
 returns-2 : tie.Need-returns-2
 returns-2 c =
     let at-start = c .before .before .before .before .before .before .before in
     let r = at-start .pre .0 in
     let e = learnt (at-start .args .close ∷ []) (c .if1 .left) (c .before .is-symbol .ensures) (c .before .before .symbol-at .ensures) in
-    record { comes = λ vs. tok-not (r .here) (r .used) e }
+    λ room. record { comes = λ vs. tok-not (r .here) (r .used) e }
 
 pub shut-spec : {M : Type 1} → statement M
 shut-spec =

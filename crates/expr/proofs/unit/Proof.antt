@@ -38,14 +38,14 @@ returns c =
     let at-start = at-if1 .before .before .before .before .before .before .before in
     let r = at-start .pre .0 in
     let m = met (code.RParen ∷ []) refl refl (r .tokens) (r .here) (at-if1 .if1 .taken) (at-if1 .before .is-symbol .ensures) (at-if1 .before .before .symbol-at .ensures) in
-    record { comes = λ vs. met-wrote (r .used) m (rw (at-put-empty .before .past .ensures) at (at-put-empty .put-empty .ensures (at-start .args .src .now))) }
+    λ room. record { comes = λ vs. met-wrote (r .used) m (rw (at-put-empty .before .past .ensures) at (at-put-empty .put-empty .ensures (at-start .args .src .now))) }
 
 returns-2 : tie.Need-returns-2
 returns-2 c =
     let at-start = c .before .before .before .before .before .before .before in
     let r = at-start .pre .0 in
     let e = learnt (code.RParen ∷ []) (c .if1 .left) (c .before .is-symbol .ensures) (c .before .before .symbol-at .ensures) in
-    record { comes = λ vs. tok-not (r .here) (r .used) e }
+    λ room. record { comes = λ vs. tok-not (r .here) (r .used) e }
 
 pub unit-spec : {M : Type 1} → statement M
 unit-spec =

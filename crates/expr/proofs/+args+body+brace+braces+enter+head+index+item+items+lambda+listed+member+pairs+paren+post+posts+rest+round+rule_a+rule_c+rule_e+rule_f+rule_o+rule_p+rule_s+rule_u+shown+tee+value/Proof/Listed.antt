@@ -42,7 +42,7 @@ module _ (t : ℕ) where
       let at-inner = at-shut .before .before .before in
       let at-rest = at-inner .before .before .before .before in
       let d = at-rest .rest .ensures .leads _ _ (at-inner .inner .given .1) in
-      record { comes = λ vs. d .same _ _ _ _ (done-then (at-shut .shut .ensures .comes vs)) }
+      record { comes = λ vs. d .same _ _ _ _ (done-then (at-shut .shut .ensures _ .comes vs)) }
 
   same-length-2 : lts.Need-same-length-2 (calls t) (listed-at t) reads.Post
   same-length-2 c = search needs

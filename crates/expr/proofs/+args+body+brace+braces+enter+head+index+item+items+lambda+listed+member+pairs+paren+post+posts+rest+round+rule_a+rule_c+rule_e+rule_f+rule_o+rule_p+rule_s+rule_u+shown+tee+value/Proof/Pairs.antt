@@ -69,7 +69,7 @@ module _ (t : ℕ) where
       let at-inner = at-rest .before .before .before in
       let at-value = at-inner .before .before .before .before in
       let d = at-rest .rest .ensures .leads _ _ (at-more .more .given .1) in
-      record { comes = λ vs. flat-then (at-value .value .ensures) (at-inner .inner .given .1) (one-then (d .same _ _ _ _ (done-then (at-shut .shut .ensures .comes vs)))) }
+      record { comes = λ vs. flat-then (at-value .value .ensures) (at-inner .inner .given .1) (one-then (d .same _ _ _ _ (done-then (at-shut .shut .ensures _ .comes vs)))) }
 
   same-length-2 : lts.Need-same-length-2 (calls t) (pairs-at t) reads.Post
   same-length-2 c = search needs

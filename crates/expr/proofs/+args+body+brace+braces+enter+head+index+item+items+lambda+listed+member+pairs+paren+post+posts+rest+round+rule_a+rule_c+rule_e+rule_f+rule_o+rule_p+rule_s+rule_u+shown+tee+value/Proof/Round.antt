@@ -62,9 +62,6 @@ module _ (t : ℕ) where
   enum-known-inner-2 : lts.Need-enum-known-inner-2 (calls t) (round-at t) reads.Post
   enum-known-inner-2 c = search needs
 
-  symbol-at-requires-2 : lts.Need-symbol-at-requires-2 (calls t) (round-at t) reads.Post
-  symbol-at-requires-2 c κs = search needs
-
   is-symbol-requires : lts.Need-is-symbol-requires (calls t) (round-at t) reads.Post
   is-symbol-requires c κs = search needs
 
@@ -74,9 +71,10 @@ module _ (t : ℕ) where
   unit-requires : lts.Need-unit-requires (calls t) (round-at t) reads.Post
   unit-requires c κs =
       let at-if2 = c .before .before in
-      let at-start = at-if2 .before .before .before .before .before .before .before .before .before .before in
+      let at-symbol-at = at-if2 .before .before .before .before in
+      let at-start = at-symbol-at .before .before .before .before .before in
       let r = at-start .pre .1 .0 in
-      let m = met (code.RParen ∷ []) refl refl (r .tokens) (r .here) (at-if2 .if2 .taken) (at-if2 .before .is-symbol .ensures) (at-if2 .before .before .symbol-at2 .ensures) in
+      let m = met (code.RParen ∷ []) refl refl (r .tokens) (r .here) (at-if2 .if2 .taken) (at-if2 .before .is-symbol .ensures) (at-symbol-at .symbol-at .ensures) in
       rw (c .past .ensures) (ready-of (r .tokens) (omega arith), omega arith)
 
   same-length : lts.Need-same-length (calls t) (round-at t) reads.Post
@@ -114,20 +112,21 @@ module _ (t : ℕ) where
   returns-3 c =
       let at-unit = c .before .before in
       let at-if2 = at-unit .before .before .before in
-      let at-if1 = at-if2 .before .before .before in
-      let r = at-if1 .before .before .before .before .before .before .before .pre .1 .0 in
+      let at-if1 = at-if2 .before .before in
+      let at-start = at-if1 .before .before .before .before .before .before .before in
+      let r = at-start .pre .1 .0 in
       let b = learnt firstE (at-if1 .if1 .left) (at-if1 .before .begins-e .ensures) (at-if1 .before .before .symbol-at .ensures) in
-      let e = learnt (code.RParen ∷ []) (at-if2 .if2 .taken) (at-if2 .before .is-symbol .ensures) (at-if2 .before .before .symbol-at2 .ensures) in
-      record { comes = λ vs. or-next (r .here) b (tok-then (r .here) e (rw (at-unit .before .past .ensures) at (at-unit .unit .ensures .comes vs))) }
+      let e = learnt (code.RParen ∷ []) (at-if2 .if2 .taken) (at-if2 .before .is-symbol .ensures) (at-if1 .before .before .symbol-at .ensures) in
+      record { comes = λ vs. or-next (r .here) b (tok-then (r .here) e (rw (at-unit .before .past .ensures) at (at-unit .unit .ensures (at-start .args .left) .comes vs))) }
 
   returns-4 : lts.Need-returns-4 (calls t) (round-at t) reads.Post
   unfolding first begins null
   returns-4 c =
-      let at-if1 = c .before .before .before in
+      let at-if1 = c .before .before in
       let r = at-if1 .before .before .before .before .before .before .before .pre .1 .0 in
       let b = learnt firstE (at-if1 .if1 .left) (at-if1 .before .begins-e .ensures) (at-if1 .before .before .symbol-at .ensures) in
-      let e = learnt (code.RParen ∷ []) (c .if2 .left) (c .before .is-symbol .ensures) (c .before .before .symbol-at2 .ensures) in
+      let e = learnt (code.RParen ∷ []) (c .if2 .left) (c .before .is-symbol .ensures) (at-if1 .before .before .symbol-at .ensures) in
       record { comes = λ vs. or-next (r .here) b (tok-not (r .here) (r .used) e) }
 
   pub meets : {M : Type 1} → lts.Closed (calls t) (round-at t) reads.Post M
-  meets = lts.spec (calls t) (round-at t) reads.Post symbol-at-requires begins-e-requires rule-e-requires enum-known-inner paren-requires enum-known-inner-2 symbol-at-requires-2 is-symbol-requires past-requires unit-requires same-length returns same-length-2 returns-2 same-length-3 returns-3 returns-4
+  meets = lts.spec (calls t) (round-at t) reads.Post symbol-at-requires begins-e-requires rule-e-requires enum-known-inner paren-requires enum-known-inner-2 is-symbol-requires past-requires unit-requires same-length returns same-length-2 returns-2 same-length-3 returns-3 returns-4

@@ -42,7 +42,7 @@ module _ (t : ℕ) where
   returns c =
       let at-shut = c .before .before in
       let at-inner = at-shut .before .before .before in
-      record { comes = λ vs. part-then (at-inner .before .before .before .before .items .ensures) (at-inner .inner .given .1) (at-shut .shut .ensures .comes vs) }
+      record { comes = λ vs. part-then (at-inner .before .before .before .before .items .ensures) (at-inner .inner .given .1) (at-shut .shut .ensures _ .comes vs) }
 
   same-length-2 : lts.Need-same-length-2 (calls t) (shown-at t) reads.Post
   same-length-2 c = search needs
