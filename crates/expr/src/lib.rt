@@ -506,13 +506,7 @@ fn items(src: &[u8], toks: &[u32], tree: &mut [u32], left: u32, s: State) -> Par
     if lookahead::begins_e(lookahead::symbol_at(src, toks, at)) {
         let inner = rule_e(src, toks, tree, left, s);
         match inner {
-            Parsed::Node(n, after) => {
-                let more = rest(src, toks, tree, left, false, n, n, after);
-                match more {
-                    Parsed::Node(first, done) => Parsed::Node(first, done),
-                    Parsed::Refused(code, done) => Parsed::Refused(code, done),
-                }
-            }
+            Parsed::Node(n, after) => rest(src, toks, tree, left, false, n, n, after),
             Parsed::Refused(code, after) => Parsed::Refused(code, after),
         }
     } else {

@@ -5,16 +5,17 @@ use mathlib.Core.List.{List, _∷_, _++_}
 use Prim.Native.Nat.{ℕ, _+_, _*_, _≤_, _<_}
 use native.Mathlib.Omega.{arith}
 use lib.ListN.{length}
-use Rattle.grammar.specs.Grammar.{Part, _⨾_}
+use Rattle.grammar.specs.Grammar.{Part, act, _⨾_}
 use Rattle.token.specs.declared.NodeNumber.{NodeNumber}
 use Rattle.pyhyeon.specs.Machine.{Value, node, growing}
-use Rattle.pyhyeon.specs.Action.{Action}
+use Rattle.pyhyeon.specs.Action.{Action, list-done}
 use Rattle.pyhyeon.specs.Rules.{Rule}
 use Rattle.leaves.specs.declared.State.{State}
 use Rattle.leaves.specs.declared.Parsed.{Parsed}
 use Rattle.leaves.specs.declared.Parsed.the-variants.{Node, Refused}
 use Rattle.lookahead.specs.Tokens.{eofAt, textBefore, Tokens}
-use Rattle.leaves.specs.Contract.{Shape, a-node, Comes, Ready, Led, Lists}
+use Rattle.leaves.specs.Contract.{Shape, a-node, a-list, Comes, Ready, Led, Lists}
+use Rattle.joint.proofs.Ends.{list-last}
 
 -- what code needs at a state, of the numbers that are left to show
 pub ready-of : {src toks tr : List ℕ} {s : State} {extra : ℕ} → Tokens src toks →
@@ -59,3 +60,8 @@ module _ {src toks : List ℕ} {room : ℕ} {p : Part Action Rule} {ins : List V
     leads = λ n₁ s₁ e. let z : _≡_ {A = ℕ} 0 1 = cc in absurd (omega arith);
     stops = λ out k₁ s₁ e q vs ws. let a : k ≡ k₁ = cc in let b : s′ ≡ s₁ = cc in rw (a, b) at (f out q vs ws);
   }
+
+-- where the list ends behind it
+pub lists-done : {src toks : List ℕ} {room : ℕ} {p : Part Action Rule} {ins : List Value} {s : State} {tr : List ℕ} (r : Parsed) {tr′ : List ℕ} → Lists src toks room p ins s tr r tr′ → (vs : List Value) → Comes src toks room (p ⨾ act list-done) a-list vs (ins ++ vs) s tr r tr′
+lists-done (Node n s′) l vs = let d = l .leads n s′ refl in d .same a-list (act list-done) vs vs (list-last (d .ready .used))
+lists-done (Refused k s′) l vs = l .stops a-list k s′ refl (act list-done) vs vs

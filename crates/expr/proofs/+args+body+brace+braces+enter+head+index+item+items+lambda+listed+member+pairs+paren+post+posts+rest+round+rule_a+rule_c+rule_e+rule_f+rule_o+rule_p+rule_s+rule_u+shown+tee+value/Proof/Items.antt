@@ -1,8 +1,8 @@
 -- `expr::items`, a member of the cycle.
 -- Assumes nothing.
 use Rattle.expr.proofs.Tested.{after-e}
-use Rattle.joint.proofs.Loops.{ready-of}
-use Rattle.joint.proofs.Ends.{list-last, none-last, one-then}
+use Rattle.joint.proofs.Loops.{ready-of, lists-done}
+use Rattle.joint.proofs.Ends.{none-last, one-then}
 use Rattle.joint.proofs.Chain.{called, part-then, part-stop, or-first, or-next}
 use Rattle.leaves.specs.Contract.{Begun}
 use Rattle.pyhyeon.specs.Rules.{E}
@@ -54,12 +54,6 @@ module _ (t : ℕ) where
       let g = after-e (at-start .pre .1) (begun at-if1) (at-rule-e .rule-e .ensures) (at-inner .inner .given .1) in
       (omega arith, (ready-of (at-start .pre .1 .tokens) (omega arith), (g .node, g .node)))
 
-  enum-known-more : lts.Need-enum-known-more (calls t) (items-at t) reads.Post
-  enum-known-more c = search needs
-
-  enum-known-more-2 : lts.Need-enum-known-more-2 (calls t) (items-at t) reads.Post
-  enum-known-more-2 c = search needs
-
   enum-known-inner-2 : lts.Need-enum-known-inner-2 (calls t) (items-at t) reads.Post
   enum-known-inner-2 c = search needs
 
@@ -69,15 +63,13 @@ module _ (t : ℕ) where
   returns : lts.Need-returns (calls t) (items-at t) reads.Post
   unfolding first begins null
   returns c =
-      let at-more = c .before in
-      let at-rest = at-more .before .before .before .before in
+      let at-rest = c .before .before in
       let at-inner = at-rest .before .before .before in
       let at-rule-e = at-inner .before .before .before .before in
       let at-if1 = at-rule-e .before .before in
       let h = start at-if1 .pre .1 .here in
       let b = begun at-if1 .seen in
-      let d = at-rest .rest .ensures .leads _ _ (at-more .more .given .1) in
-      record { comes = λ vs. or-first h b (part-then (called h b (at-rule-e .rule-e .ensures)) (at-inner .inner .given .1) (one-then (d .same _ _ _ _ (list-last (d .ready .used))))) }
+      record { comes = λ vs. or-first h b (part-then (called h b (at-rule-e .rule-e .ensures)) (at-inner .inner .given .1) (one-then (lists-done _ (at-rest .rest .ensures) vs))) }
 
   same-length-2 : lts.Need-same-length-2 (calls t) (items-at t) reads.Post
   same-length-2 c = search needs
@@ -85,21 +77,6 @@ module _ (t : ℕ) where
   returns-2 : lts.Need-returns-2 (calls t) (items-at t) reads.Post
   unfolding first begins null
   returns-2 c =
-      let at-more2 = c .before in
-      let at-rest = at-more2 .before .before .before .before in
-      let at-inner = at-rest .before .before .before in
-      let at-rule-e = at-inner .before .before .before .before in
-      let at-if1 = at-rule-e .before .before in
-      let h = start at-if1 .pre .1 .here in
-      let b = begun at-if1 .seen in
-      record { comes = λ vs. or-first h b (part-then (called h b (at-rule-e .rule-e .ensures)) (at-inner .inner .given .1) (one-then (at-rest .rest .ensures .stops _ _ _ (at-more2 .more2 .given .1) _ _ _))) }
-
-  same-length-3 : lts.Need-same-length-3 (calls t) (items-at t) reads.Post
-  same-length-3 c = search needs
-
-  returns-3 : lts.Need-returns-3 (calls t) (items-at t) reads.Post
-  unfolding first begins null
-  returns-3 c =
       let at-inner2 = c .before in
       let at-rule-e = at-inner2 .before .before .before .before in
       let at-if1 = at-rule-e .before .before in
@@ -107,12 +84,12 @@ module _ (t : ℕ) where
       let b = begun at-if1 .seen in
       record { comes = λ vs. or-first h b (part-stop _ (called h b (at-rule-e .rule-e .ensures)) (at-inner2 .inner2 .given .1)) }
 
-  returns-4 : lts.Need-returns-4 (calls t) (items-at t) reads.Post
+  returns-3 : lts.Need-returns-3 (calls t) (items-at t) reads.Post
   unfolding first begins null
-  returns-4 c =
+  returns-3 c =
       let r = c .before .before .before .before .before .before .before .pre .1 in
       let b = learnt firstE (c .if1 .left) (c .before .begins-e .ensures) (c .before .before .symbol-at .ensures) in
       record { comes = λ vs. or-next (r .here) b (none-last (r .used)) }
 
   pub meets : {M : Type 1} → lts.Closed (calls t) (items-at t) reads.Post M
-  meets = lts.spec (calls t) (items-at t) reads.Post symbol-at-requires begins-e-requires rule-e-requires enum-known-inner rest-requires enum-known-more enum-known-more-2 enum-known-inner-2 same-length returns same-length-2 returns-2 same-length-3 returns-3 returns-4
+  meets = lts.spec (calls t) (items-at t) reads.Post symbol-at-requires begins-e-requires rule-e-requires enum-known-inner rest-requires enum-known-inner-2 same-length returns same-length-2 returns-2 returns-3
