@@ -1,5 +1,6 @@
 pub mod Newest
 pub mod Low
+pub mod Taken
 pub mod Stating
 pub mod Gathering
 pub mod OneLine

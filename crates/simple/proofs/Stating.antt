@@ -21,7 +21,6 @@ use Rattle.leaves.specs.declared.Parsed.the-variants.{Node, Refused}
 use Rattle.lookahead.specs.Tokens.{eofAt, textBefore, symbolAt}
 use Rattle.leaves.specs.Contract.{past, raised, a-node, Comes, Parts, Ready, Spot, Writes}
 use Rattle.lookahead.proofs.Tests.{not-first}
-use Rattle.lookahead.proofs.Tokens.{Took, took}
 use Rattle.joint.proofs.Chain.{tok-then, part-then, part-stop, or-first, or-next}
 use Rattle.joint.proofs.Counts.{Came, came-fresh, came-node}
 use Rattle.joint.proofs.Ends.{act-wrote, tok-mark}
@@ -30,6 +29,7 @@ use Rattle.simple.specs.declared.Role.{Role}
 use Rattle.simple.specs.declared.Role.the-variants as role
 use Rattle.simple.specs.Roles.{does, behind, stated, hand, targets, Placed}
 use Rattle.simple.proofs.Low.{modest-t, some-t}
+use Rattle.simple.proofs.Taken.{Taken, taken, taken-ready}
 
 -- where a keyword, or a target, lies
 pub placed-return : {k : TokenNumber} {s : State} → k .0 < s .at .0 → Placed (role.Return k) s
@@ -111,9 +111,9 @@ module _ {src toks : List ℕ} {room : ℕ} {what : Role} {u : State} {tr₀ : L
       stating-goes d f =
           let w = i .ready in
           let g = stating-came in
-          let l : Took src toks (after .at .0) = took (code.Equal ∷ []) refl refl (w .tokens) (g .here) (target-seen src toks (after .at .0) r (sym d ∙ f)) in
+          let l : Taken src toks (code.Equal ∷ []) after = taken (code.Equal ∷ []) refl refl (w .tokens) (g .here) (g .used) (target-seen src toks (after .at .0) r (sym d ∙ f)) in
           record {
-            ready = ready-of (w .tokens) (omega (arith, k, w .room), l .inside, omega (arith, w .nodes, g .nodes), omega (arith, w .opened, g .opened), g .used ∙ sym (l .text));
+            ready = ready-of (w .tokens) (omega (arith, k, w .room), l .inside, omega (arith, w .nodes, g .nodes), omega (arith, w .opened, g .opened), l .used);
             long = k ∙ i .long;
             placed = placed-value (came-node g);
             same = λ vs x. i .same vs (part-then c e (behind-turns (g .here) r (sym d ∙ f) x));
@@ -129,9 +129,9 @@ module _ {src toks : List ℕ} {s : State} {tr : List ℕ} (w : Ready src toks t
   pub opening-return : mem (symbolAt src toks (s .at .0)) (code.Return ∷ []) ≡ true → Opening src toks s tr (role.Return (s .at)) (past (raised s))
   unfolding joined plain first begins null
   opening-return e =
-      let l = took (code.Return ∷ []) refl refl (w .tokens) (w .here) e in
+      let l = taken-ready (code.Return ∷ []) refl refl w e in
       record {
-        ready = ready-of (w .tokens) (omega (arith, w .room), l .inside, omega (arith, w .nodes), omega (arith, w .opened), w .used ∙ sym (l .text));
+        ready = ready-of (w .tokens) (omega (arith, w .room), l .inside, omega (arith, w .nodes), omega (arith, w .opened), l .used);
         placed = placed-return (omega arith);
         same = λ vs c. or-first (w .here) e (tok-mark (w .here) e c);
       }

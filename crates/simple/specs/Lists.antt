@@ -8,14 +8,14 @@ use Rattle.pyhyeon.specs.Machine.{growing}
 use Rattle.pyhyeon.specs.Action.{list-join}
 use Rattle.leaves.specs.declared.State.{State}
 use Rattle.leaves.specs.Contract.{Changes}
-use Rattle.simple.specs.declared.Before.{Before}
-use Rattle.simple.specs.declared.Before.the-variants as before
+use Rattle.simple.specs.declared.Gathered.{Gathered}
+use Rattle.simple.specs.declared.Gathered.the-variants as gathered
 
 -- the last node of the list lies before the state
-pub record Held (b : Before) (s : State) : Type 0 where
-  pub last : (f l : NodeNumber) → b ≡ before.List f l → l .0 < s .nodes
+pub record Held (b : Gathered) (s : State) : Type 0 where
+  pub last : (f l : NodeNumber) → b ≡ gathered.List f l → l .0 < s .nodes
 
 -- The list from the node n up to any m joins what stands before it: it is the whole list, or the action `list-join` links the two.
-pub record Joined (src toks : List ℕ) (b : Before) (n : NodeNumber) (s : State) (tr : List ℕ) (r : NodeNumber) (tr′ : List ℕ) : Type 0 where
-  pub alone : b ≡ before.Nothing → (r ≡ n) × (tr′ ≡ tr)
-  pub both : (f l : NodeNumber) → b ≡ before.List f l → (r ≡ f) × ((m : ℕ) → Changes src toks list-join (growing (n .0) m ∷ growing (f .0) (l .0) ∷ []) (growing (f .0) m ∷ []) s tr tr′)
+pub record Joined (src toks : List ℕ) (b : Gathered) (n : NodeNumber) (s : State) (tr : List ℕ) (r : NodeNumber) (tr′ : List ℕ) : Type 0 where
+  pub alone : b ≡ gathered.Nothing → (r ≡ n) × (tr′ ≡ tr)
+  pub both : (f l : NodeNumber) → b ≡ gathered.List f l → (r ≡ f) × ((m : ℕ) → Changes src toks list-join (growing (n .0) m ∷ growing (f .0) (l .0) ∷ []) (growing (f .0) m ∷ []) s tr tr′)

@@ -27,8 +27,8 @@ enum Role {
     Value(NodeNumber),
 }
 
-// What stands before a statement: nothing, or a list in the making, by its first node and its last.
-pub enum Before {
+// What is gathered before a statement: nothing, or a list in the making, by its first node and its last.
+pub enum Gathered {
     Nothing,
     List(NodeNumber, NodeNumber),
 }
@@ -42,19 +42,13 @@ pub fn rule_simple(src: &[u8], toks: &[u32], tree: &mut [u32], left: u32, s: Sta
 {
     let at = s.at;
     let opened = s.opened + 1;
-    let t = at.0 + 1;
     let up = State {
         at: at,
         nodes: s.nodes,
         opened: opened,
         used: s.used,
     };
-    let on = State {
-        at: TokenNumber(t),
-        nodes: s.nodes,
-        opened: opened,
-        used: s.used,
-    };
+    let on = leaves::past(up);
     let symbol = lookahead::symbol_at(src, toks, at);
     match symbol {
         token::BREAK => word(toks, tree, ast::BREAK, on),
@@ -99,15 +93,8 @@ fn statement(src: &[u8], toks: &[u32], tree: &mut [u32], left: u32, what: Role, 
             Parsed::Node(n, after) => {
                 let at = after.at;
                 if is_target(src, toks, role, at) {
-                    let t = at.0 + 1;
-                    let on = State {
-                        at: TokenNumber(t),
-                        nodes: after.nodes,
-                        opened: after.opened,
-                        used: after.used,
-                    };
                     role = Role::Value(n);
-                    st = on;
+                    st = leaves::past(after);
                 } else {
                     let made = put(toks, tree, role, n, after);
                     let m = made.0;
@@ -153,26 +140,20 @@ pub fn simples(src: &[u8], toks: &[u32], tree: &mut [u32], left: u32, s: State) 
 {
     let at = s.at;
     if lookahead::begins_simple(lookahead::symbol_at(src, toks, at)) {
-        let mut before = Before::Nothing;
+        let mut gathered = Gathered::Nothing;
         let mut st = s;
         loop {
             let inner = rule_simple(src, toks, tree, left, st);
             match inner {
                 Parsed::Node(n, done) => {
-                    let first = joined(tree, before, n, done);
+                    let first = joined(tree, gathered, n, done);
                     let end = done.at;
                     let symbol = lookahead::symbol_at(src, toks, end);
                     if lookahead::is_symbol(symbol, token::SEMICOLON) {
-                        let t = end.0 + 1;
-                        let next = TokenNumber(t);
-                        let on = State {
-                            at: next,
-                            nodes: done.nodes,
-                            opened: done.opened,
-                            used: done.used,
-                        };
+                        let on = leaves::past(done);
+                        let next = on.at;
                         if lookahead::begins_simple(lookahead::symbol_at(src, toks, next)) {
-                            before = Before::List(first, n);
+                            gathered = Gathered::List(first, n);
                             st = on;
                         } else {
                             return line_end(src, toks, first, on);
@@ -189,15 +170,15 @@ pub fn simples(src: &[u8], toks: &[u32], tree: &mut [u32], left: u32, s: State) 
     }
 }
 
-// The list that begins at the node n, behind what stands before it: the first node of both.
-pub fn joined(tree: &mut [u32], before: Before, n: NodeNumber, s: State) -> NodeNumber
+// The list that begins at the node n, behind what is gathered before it: the first node of both.
+pub fn joined(tree: &mut [u32], gathered: Gathered, n: NodeNumber, s: State) -> NodeNumber
     requires { ⌜ 8 * s .nodes + 8 ≤ length (now tree) ⌝ }
-    requires { ⌜ Held before s ⌝ }
-    ensures { λ r. ⌜ ((src toks : List ℕ) → Joined src toks before n s (now (tree .entry)) r (now (tree .exit))) ⌝ }
+    requires { ⌜ Held gathered s ⌝ }
+    ensures { λ r. ⌜ ((src toks : List ℕ) → Joined src toks gathered n s (now (tree .entry)) r (now (tree .exit))) ⌝ }
 {
-    match before {
-        Before::Nothing => n,
-        Before::List(first, last) => {
+    match gathered {
+        Gathered::Nothing => n,
+        Gathered::List(first, last) => {
             leaves::link(tree, last, n, s);
             first
         }
@@ -212,16 +193,7 @@ fn line_end(src: &[u8], toks: &[u32], first: NodeNumber, s: State) -> Parsed
 {
     let at = s.at;
     match lookahead::symbol_at(src, toks, at) {
-        token::NEWLINE => {
-            let t = at.0 + 1;
-            let on = State {
-                at: TokenNumber(t),
-                nodes: s.nodes,
-                opened: s.opened,
-                used: s.used,
-            };
-            Parsed::Node(first, on)
-        }
+        token::NEWLINE => Parsed::Node(first, leaves::past(s)),
         token::EOF => Parsed::Node(first, s),
         _ => Parsed::Refused(14, s),
     }

@@ -33,8 +33,8 @@ use Rattle.joint.proofs.Counts.{Modest, Came, came-growing, pays-line}
 use Rattle.joint.proofs.Loops.{ready-of}
 use Rattle.joint.proofs.Passing.{moved, newlines-pass, run-text}
 use Rattle.simple.specs.Parts.{Newest}
-use Rattle.simple.specs.declared.Before.{Before}
-use Rattle.simple.specs.declared.Before.the-variants as before
+use Rattle.simple.specs.declared.Gathered.{Gathered}
+use Rattle.simple.specs.declared.Gathered.the-variants as gathered
 use Rattle.simple.specs.Lists.{Held, Joined}
 use Rattle.simple.proofs.Gathering.{Gathering, gathering-read, gathering-came, gathering-room, gathering-held, joined-then, held-list, held-later}
 use Rattle.stmt.specs.Parts.{inner}
@@ -89,10 +89,10 @@ module _ {src toks : List ℕ} {room : ℕ} {p : Part Action Rule} {ins : List V
 abbrev pub item : Part Action Rule → Part Action Rule
 item q = call Line ⨾ newlines ⨾ q
 
-abbrev pub Reading : (src toks : List ℕ) → ℕ → State → List ℕ → Before → State → List ℕ → Type 0
+abbrev pub Reading : (src toks : List ℕ) → ℕ → State → List ℕ → Gathered → State → List ℕ → Type 0
 Reading src toks room u tr₀ b st tr = Gathering src toks room 1 Line a-list linesOn item (many further ⨾ act list-done) u tr₀ b st tr
 
-module _ {src toks : List ℕ} {room : ℕ} {u : State} {tr₀ : List ℕ} {b : Before} {st : State} {tr : List ℕ} (i : Reading src toks room u tr₀ b st tr) {inner : Parsed} {tr₁ : List ℕ} (c : Rules src toks room Line a-growing st tr inner tr₁) where
+module _ {src toks : List ℕ} {room : ℕ} {u : State} {tr₀ : List ℕ} {b : Gathered} {st : State} {tr : List ℕ} (i : Reading src toks room u tr₀ b st tr) {inner : Parsed} {tr₁ : List ℕ} (c : Rules src toks room Line a-growing st tr inner tr₁) where
   -- the Line was refused
   pub lines-stop : {k : ℕ} {t : State} → inner ≡ Refused k t → (vs : List Value) → Comes src toks room linesOn a-list vs vs u tr₀ (Refused k t) tr₁
   lines-stop e vs = i .same vs (part-stop _ (gathering-read i c) e)
@@ -126,7 +126,7 @@ module _ {src toks : List ℕ} {room : ℕ} {u : State} {tr₀ : List ℕ} {b : 
         unfolding first begins null
         lines-end h vs = behind-is (many-end low-lines (g .inside) h (list-last used))
 
-        pub lines-goes : length tr₁ ≡ length tr → length tr₂ ≡ length tr₁ → mem (symbolAt src toks end) firstLine ≡ true → Reading src toks room u tr₀ (before.List f (record { 0 = after .nodes - 1 })) (moved after end) tr₂
+        pub lines-goes : length tr₁ ≡ length tr → length tr₂ ≡ length tr₁ → mem (symbolAt src toks end) firstLine ≡ true → Reading src toks room u tr₀ (gathered.List f (record { 0 = after .nodes - 1 })) (moved after end) tr₂
         unfolding first begins null
         lines-goes k k₂ h =
             let w = i .ready in

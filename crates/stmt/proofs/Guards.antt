@@ -13,10 +13,10 @@ use Rattle.leaves.specs.declared.State.{State}
 use Rattle.leaves.specs.declared.Parsed.the-variants as parsed
 use Rattle.leaves.specs.Contract.{Shape, Comes}
 use Rattle.stmt.specs.declared.Clause.the-variants.{Both, Refused}
-use Rattle.stmt.specs.Guards.{Behind, Guards}
+use Rattle.stmt.specs.Guards.{BothRead, Guards}
 
 module _ {src toks : List ℕ} {room : ℕ} {s : State} {tr : List ℕ} {s′ : State} {tr′ : List ℕ} where
-  pub guards-both : {c n : NodeNumber} → Behind src toks room s tr c n s′ tr′ → Guards src toks room s tr (Both c n s′) tr′
+  pub guards-both : {c n : NodeNumber} → BothRead src toks room s tr c n s′ tr′ → Guards src toks room s tr (Both c n s′) tr′
   guards-both {c} {n} d = record {
     leads = λ {c = c₁} {n = n₁} {s′ = s₁} e. let a : c ≡ c₁ = cc in let b : n ≡ n₁ = cc in let f : s′ ≡ s₁ = cc in rw (a, b, f) at d;
     stops = λ e. let z : _≡_ {A = ℕ} 0 1 = cc in absurd (omega arith);

@@ -43,11 +43,11 @@ others false = many (elifs ⨾ act list-join)
 abbrev pub classEnd : Part Action Rule
 classEnd = tk Dedent ⨾ act class
 
-abbrev pub methodsOn : Part Action Rule
-methodsOn = tk Indent ⨾ definition kind.Method ⨾ act list-one ⨾ others true ⨾ act list-done ⨾ classEnd
+abbrev pub classBody : Part Action Rule
+classBody = tk Indent ⨾ definition kind.Method ⨾ act list-one ⨾ others true ⨾ act list-done ⨾ classEnd
 
 abbrev pub classOn : Part Action Rule
-classOn = tk Colon ⨾ tk Newline ⨾ newlines ⨾ methodsOn
+classOn = tk Colon ⨾ tk Newline ⨾ newlines ⨾ classBody
 
 -- a Def or Method after its opening parenthesis, and after its keyword
 abbrev pub givenOn : ℕ → Part Action Rule

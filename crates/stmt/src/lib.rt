@@ -20,13 +20,13 @@ ghost use Rattle.lookahead.specs.Tokens.{eofAt, textBefore, symbolAt, Tokens};
 ghost use Rattle.leaves.specs.Contract.{a-node, a-list, a-growing, Rules, Parts, Lists, Ready, Begun};
 ghost use Rattle.simple.specs.Parts.{Newest};
 ghost use Rattle.stmt.specs.Guards.{Guards};
-ghost use Rattle.stmt.specs.Parts.{inner, indentedOn, classOn, leading, member, others, methodsOn, classEnd, namedOn, givenOn, elifsOn, elseOn, branches, ifOn, elifOn, whileOn, rangeOn, forOn};
+ghost use Rattle.stmt.specs.Parts.{inner, indentedOn, classOn, leading, member, others, classBody, classEnd, namedOn, givenOn, elifsOn, elseOn, branches, ifOn, elifOn, whileOn, rangeOn, forOn};
 
 mod whole;
 
 use leaves::Parsed;
 use leaves::State;
-use simple::Before;
+use simple::Gathered;
 use token::NodeNumber;
 use token::TokenNumber;
 pub use whole::program;
@@ -54,13 +54,7 @@ fn rule_line(src: &[u8], toks: &[u32], tree: &mut [u32], left: u32, s: State) ->
         opened: opened,
         used: s.used,
     };
-    let t = at.0 + 1;
-    let on = State {
-        at: TokenNumber(t),
-        nodes: s.nodes,
-        opened: opened,
-        used: s.used,
-    };
+    let on = leaves::past(up);
     match lookahead::symbol_at(src, toks, at) {
         token::CLASS => rule_class(src, toks, tree, left, up),
         token::DEF => named(src, toks, tree, left, ast::DEF, at, on),
@@ -126,14 +120,7 @@ fn indented(src: &[u8], toks: &[u32], tree: &mut [u32], left: u32, s: State) -> 
 {
     let at = s.at;
     if lookahead::is_symbol(lookahead::symbol_at(src, toks, at), token::INDENT) {
-        let t = at.0 + 1;
-        let on = State {
-            at: TokenNumber(t),
-            nodes: s.nodes,
-            opened: s.opened,
-            used: s.used,
-        };
-        let body = inside(src, toks, tree, left, on);
+        let body = inside(src, toks, tree, left, leaves::past(s));
         match body {
             Parsed::Node(n, after) => dedent(src, toks, n, after),
             Parsed::Refused(code, after) => Parsed::Refused(code, after),
@@ -181,7 +168,7 @@ fn lines(src: &[u8], toks: &[u32], tree: &mut [u32], left: u32, s: State) -> Par
 {
     let at = s.at;
     if lookahead::begins_line(lookahead::symbol_at(src, toks, at)) {
-        let mut before = Before::Nothing;
+        let mut gathered = Gathered::Nothing;
         let mut st = s;
         loop {
             let inner = rule_line(src, toks, tree, left, st);
@@ -196,9 +183,9 @@ fn lines(src: &[u8], toks: &[u32], tree: &mut [u32], left: u32, s: State) -> Par
                         opened: after.opened,
                         used: after.used,
                     };
-                    let first = simple::joined(tree, before, n, on);
+                    let first = simple::joined(tree, gathered, n, on);
                     if lookahead::begins_line(lookahead::symbol_at(src, toks, line)) {
-                        before = Before::List(first, NodeNumber(k));
+                        gathered = Gathered::List(first, NodeNumber(k));
                         st = on;
                     } else {
                         return Parsed::Node(first, on);
@@ -220,14 +207,7 @@ fn dedent(src: &[u8], toks: &[u32], first: NodeNumber, s: State) -> Parsed
 {
     let at = s.at;
     if lookahead::is_symbol(lookahead::symbol_at(src, toks, at), token::DEDENT) {
-        let t = at.0 + 1;
-        let on = State {
-            at: TokenNumber(t),
-            nodes: s.nodes,
-            opened: s.opened,
-            used: s.used,
-        };
-        Parsed::Node(first, on)
+        Parsed::Node(first, leaves::past(s))
     } else {
         Parsed::Refused(14, s)
     }
@@ -244,23 +224,16 @@ fn rule_class(src: &[u8], toks: &[u32], tree: &mut [u32], left: u32, s: State) -
     let opened = s.opened + 1;
     let t = keyword.0 + 1;
     let name = TokenNumber(t);
+    let on = State {
+        at: name,
+        nodes: s.nodes,
+        opened: opened,
+        used: s.used,
+    };
     if lookahead::is_name(lookahead::symbol_at(src, toks, name)) {
-        let u = t + 1;
-        let on = State {
-            at: TokenNumber(u),
-            nodes: s.nodes,
-            opened: opened,
-            used: s.used,
-        };
-        suite(src, toks, tree, left, keyword, name, on)
+        suite(src, toks, tree, left, keyword, name, leaves::past(on))
     } else {
-        let up = State {
-            at: name,
-            nodes: s.nodes,
-            opened: opened,
-            used: s.used,
-        };
-        Parsed::Refused(14, up)
+        Parsed::Refused(14, on)
     }
 }
 
@@ -281,10 +254,10 @@ fn suite(
 {
     let at = s.at;
     if lookahead::is_symbol(lookahead::symbol_at(src, toks, at), token::COLON) {
-        let t = at.0 + 1;
-        let next = TokenNumber(t);
+        let on = leaves::past(s);
+        let next = on.at;
         if lookahead::is_symbol(lookahead::symbol_at(src, toks, next), token::NEWLINE) {
-            let u = t + 1;
+            let u = next.0 + 1;
             let line = lookahead::skip_newlines(src, toks, TokenNumber(u));
             let below = State {
                 at: line,
@@ -292,14 +265,8 @@ fn suite(
                 opened: s.opened,
                 used: s.used,
             };
-            methods(src, toks, tree, left, keyword, name, below)
+            class_body(src, toks, tree, left, keyword, name, below)
         } else {
-            let on = State {
-                at: next,
-                nodes: s.nodes,
-                opened: s.opened,
-                used: s.used,
-            };
             Parsed::Refused(14, on)
         }
     } else {
@@ -308,7 +275,7 @@ fn suite(
 }
 
 // Indent, one or more Methods, Dedent.
-fn methods(
+fn class_body(
     src: &[u8],
     toks: &[u32],
     tree: &mut [u32],
@@ -319,19 +286,12 @@ fn methods(
 ) -> Parsed
     requires { ⌜ Ready (now src) (now toks) (now tree) s 1 ⌝ }
     requires { ⌜ (keyword .0 < s .at .0) × (name .0 < s .at .0) ⌝ }
-    ensures { λ r. ⌜ Parts (now (src .entry)) (now (toks .entry)) left methodsOn (token (name .0) ∷ token (keyword .0) ∷ []) a-node s (now (tree .entry)) r (now (tree .exit)) ⌝ }
+    ensures { λ r. ⌜ Parts (now (src .entry)) (now (toks .entry)) left classBody (token (name .0) ∷ token (keyword .0) ∷ []) a-node s (now (tree .entry)) r (now (tree .exit)) ⌝ }
     ensures { λ r. ⌜ Newest r ⌝ }
 {
     let at = s.at;
     if lookahead::is_symbol(lookahead::symbol_at(src, toks, at), token::INDENT) {
-        let t = at.0 + 1;
-        let on = State {
-            at: TokenNumber(t),
-            nodes: s.nodes,
-            opened: s.opened,
-            used: s.used,
-        };
-        let one = method(src, toks, tree, left, on);
+        let one = method(src, toks, tree, left, leaves::past(s));
         match one {
             Parsed::Node(n, after) => {
                 let rest = further(src, toks, tree, left, true, n, after);
@@ -381,14 +341,7 @@ fn method(src: &[u8], toks: &[u32], tree: &mut [u32], left: u32, s: State) -> Pa
 {
     let at = s.at;
     if lookahead::is_symbol(lookahead::symbol_at(src, toks, at), token::DEF) {
-        let t = at.0 + 1;
-        let on = State {
-            at: TokenNumber(t),
-            nodes: s.nodes,
-            opened: s.opened,
-            used: s.used,
-        };
-        named(src, toks, tree, left, ast::METHOD, at, on)
+        named(src, toks, tree, left, ast::METHOD, at, leaves::past(s))
     } else {
         Parsed::Refused(14, s)
     }
@@ -411,23 +364,10 @@ fn named(
 {
     let name = s.at;
     if lookahead::is_name(lookahead::symbol_at(src, toks, name)) {
-        let t = name.0 + 1;
-        let next = TokenNumber(t);
-        let on = State {
-            at: next,
-            nodes: s.nodes,
-            opened: s.opened,
-            used: s.used,
-        };
+        let on = leaves::past(s);
+        let next = on.at;
         if lookahead::is_symbol(lookahead::symbol_at(src, toks, next), token::LPAREN) {
-            let u = t + 1;
-            let within = State {
-                at: TokenNumber(u),
-                nodes: s.nodes,
-                opened: s.opened,
-                used: s.used,
-            };
-            given(src, toks, tree, left, kind, keyword, name, within)
+            given(src, toks, tree, left, kind, keyword, name, leaves::past(on))
         } else {
             Parsed::Refused(14, on)
         }
@@ -457,14 +397,7 @@ fn given(
     let after = heads.1;
     let at = after.at;
     if lookahead::is_symbol(lookahead::symbol_at(src, toks, at), token::RPAREN) {
-        let t = at.0 + 1;
-        let on = State {
-            at: TokenNumber(t),
-            nodes: after.nodes,
-            opened: after.opened,
-            used: after.used,
-        };
-        let body = block(src, toks, tree, left, on);
+        let body = block(src, toks, tree, left, leaves::past(after));
         match body {
             Parsed::Node(n, done) => {
                 let made = stmt_leaves::put_def(toks, tree, kind, keyword, name, names, n, done);
@@ -539,23 +472,10 @@ fn each(
 {
     let name = s.at;
     if lookahead::is_name(lookahead::symbol_at(src, toks, name)) {
-        let t = name.0 + 1;
-        let next = TokenNumber(t);
-        let on = State {
-            at: next,
-            nodes: s.nodes,
-            opened: s.opened,
-            used: s.used,
-        };
+        let on = leaves::past(s);
+        let next = on.at;
         if lookahead::is_symbol(lookahead::symbol_at(src, toks, next), token::IN) {
-            let u = t + 1;
-            let within = State {
-                at: TokenNumber(u),
-                nodes: s.nodes,
-                opened: s.opened,
-                used: s.used,
-            };
-            range(src, toks, tree, left, keyword, name, within)
+            range(src, toks, tree, left, keyword, name, leaves::past(on))
         } else {
             Parsed::Refused(14, on)
         }
@@ -728,14 +648,7 @@ fn elif(src: &[u8], toks: &[u32], tree: &mut [u32], left: u32, s: State) -> Pars
     ensures { λ r. ⌜ Parts (now (src .entry)) (now (toks .entry)) left elifOn [] a-node s (now (tree .entry)) r (now (tree .exit)) ⌝ }
 {
     let keyword = s.at;
-    let t = keyword.0 + 1;
-    let on = State {
-        at: TokenNumber(t),
-        nodes: s.nodes,
-        opened: s.opened,
-        used: s.used,
-    };
-    let head = guarded(src, toks, tree, left, on);
+    let head = guarded(src, toks, tree, left, leaves::past(s));
     match head {
         Clause::Both(c, n, done) => {
             let made = stmt_leaves::put_elif(toks, tree, keyword, c, n, done);
@@ -754,14 +667,7 @@ fn other(src: &[u8], toks: &[u32], tree: &mut [u32], left: u32, s: State) -> Par
 {
     let keyword = s.at;
     if lookahead::is_symbol(lookahead::symbol_at(src, toks, keyword), token::ELSE) {
-        let t = keyword.0 + 1;
-        let on = State {
-            at: TokenNumber(t),
-            nodes: s.nodes,
-            opened: s.opened,
-            used: s.used,
-        };
-        let body = block(src, toks, tree, left, on);
+        let body = block(src, toks, tree, left, leaves::past(s));
         match body {
             Parsed::Node(n, done) => {
                 let made = stmt_leaves::put_else(toks, tree, keyword, n, done);

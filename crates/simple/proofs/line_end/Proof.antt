@@ -3,12 +3,12 @@
 use Rattle.joint.proofs.Seen.{see-end, see-no, tok-end}
 use Rattle.joint.proofs.Chain.{or-first, or-next}
 use Rattle.lookahead.proofs.Tests.{coded, not-first}
-use Rattle.lookahead.proofs.Tokens.{took}
 use Rattle.grammar.specs.Descent.{null, begins}
 use Rattle.token.specs.Code as code
 use native.Mathlib.Omega.{arith}
-use mathlib.Core.Path.{refl, sym, _∙_}
+use mathlib.Core.Path.{refl}
 use mathlib.Core.List.{[], _∷_}
+use Rattle.simple.proofs.Taken.{taken}
 use Rattle.simple.proofs.line_end.Statement.{statement}
 use Rattle.simple.proofs.line_end.Tie as tie
 
@@ -17,9 +17,9 @@ symbol-at-requires c κs =
     let at-start = c .before .before .before in
     (at-start .pre .0, at-start .pre .1 .0)
 
-add-t : tie.Need-add-t
-add-t c =
-    let at-start = c .before .before .before .before .before .before in
+past-requires : tie.Need-past-requires
+past-requires c κs =
+    let at-start = c .before .before .before .before .before in
     let r = at-start .pre .0 in
     let h = at-start .pre .1 .0 in
     omega arith
@@ -30,10 +30,9 @@ returns c =
     let at-match = c .before in
     let at-symbol-at = at-match .before in
     let at-start = at-symbol-at .before .before .before .before in
-    let h = at-start .pre .1 .0 in
-    let e = coded (code.Newline ∷ []) 48 (at-symbol-at .symbol-at .ensures) (at-match .match .keys1) refl in
-    let l = took (code.Newline ∷ []) refl refl (at-start .pre .0) h e in
-    λ room tr. record { comes = λ vs. or-first h e (tok-end h e (at-start .pre .1 .1 ∙ sym (l .text))) }
+    let w = at-start .pre in
+    let e = taken (code.Newline ∷ []) refl refl {s = at-start .args .s} (w .0) (w .1 .0) (w .1 .1) (coded (code.Newline ∷ []) 48 (at-symbol-at .symbol-at .ensures) (at-match .match .keys1) refl) in
+    rw (c .past .ensures) (λ room tr. record { comes = λ vs. or-first (e .here) (e .seen) (tok-end (e .here) (e .seen) (e .used)) })
 
 returns-2 : tie.Need-returns-2
 unfolding begins null
@@ -52,4 +51,4 @@ returns-3 c =
     λ room tr. record { comes = λ vs. or-next h (not-first 48 [] (at-symbol-at .symbol-at .ensures) (c .match .rest .0 .1)) (see-no h (at-start .pre .1 .1) (not-first 49 [] (at-symbol-at .symbol-at .ensures) (c .match .rest .1))) }
 
 pub line-end-spec : {M : Type 1} → statement M
-line-end-spec = tie.close (tie.spec symbol-at-requires add-t returns returns-2 returns-3)
+line-end-spec = tie.close (tie.spec symbol-at-requires past-requires returns returns-2 returns-3)

@@ -1,17 +1,20 @@
 -- `simple::rule_simple` meets its contract: the rule Simple.
 -- Assumes nothing.
-use mathlib.Core.Path.{refl, sym, _∙_}
+use Prim.Native.Nat.{ℕ}
+use mathlib.Core.Path.{_≡_, refl}
+use mathlib.Core.Bool.{true, false}
 use mathlib.Core.Logic.{⊎-elim}
 use mathlib.Core.List.{[], _∷_}
 use native.Mathlib.Omega.{arith}
 use Rattle.token.specs.Code as code
+use Rattle.grammar.specs.Sets.{mem}
 use Rattle.grammar.specs.Descent.{null, begins}
 use Rattle.pyhyeon.specs.Rules.{plain}
 use Rattle.pyhyeon.specs.Tables.{joined, first, opens, firstE}
 use Rattle.lookahead.proofs.Tests.{coded}
-use Rattle.lookahead.proofs.Tokens.{took}
 use Rattle.joint.proofs.Chain.{open-plain, tok-then, or-first, or-next}
 use Rattle.simple.proofs.Stating.{Opening, opening-return, opening-other}
+use Rattle.simple.proofs.Taken.{Taken, taken-ready}
 use borrow.Author.Needs.{needs}
 use Rattle.simple.proofs.rule_simple.Statement.{statement}
 use Rattle.simple.proofs.rule_simple.Tie as tie
@@ -22,14 +25,19 @@ unfolding first
 opening c =
     let at-match = c .before in
     let at-symbol-at = at-match .before in
-    let at-start = at-symbol-at .before .before .before .before .before .before .before in
+    let at-past = at-symbol-at .before in
+    let at-start = at-past .before .before .before .before .before .before in
     let r = at-start .pre .0 in
     let x = at-symbol-at .symbol-at .ensures in
     let q = at-match .match .rest in
     ⊎-elim
-    (λ w. rw (w .1, w .2) (opening-return r (coded (code.Return ∷ []) 8 x (w .0 .taken) refl)))
+    (λ w. rw (w .1, w .2, at-past .past .ensures) (opening-return r (coded (code.Return ∷ []) 8 x (w .0 .taken) refl)))
     (λ w. rw (w .1, w .2) (opening-other r x (w .0 .left) (q .0 .0 .1) (q .0 .1) (q .1) (at-start .pre .1 .seen)))
     (c .if1 .came)
+
+-- where a word stands that is a statement of its own
+alone : (c : tie.After-symbol-at) (k : ℕ) → mem code.Eof (k ∷ []) ≡ false → mem code.String (k ∷ []) ≡ false → mem k (k ∷ []) ≡ true → c .symbol-at .result ≡ k → let at-start = c .before .before .before .before .before .before .before in Taken (at-start .args .src .now) (at-start .args .toks .now) (k ∷ []) (at-start .args .s)
+alone c k f g i e = taken-ready (k ∷ []) f g (c .before .before .before .before .before .before .before .pre .0) (coded (k ∷ []) k (c .symbol-at .ensures) e i)
 
 add-opened : tie.Need-add-opened
 add-opened c =
@@ -37,9 +45,9 @@ add-opened c =
     let r = at-start .pre .0 in
     omega arith
 
-add-t : tie.Need-add-t
-add-t c =
-    let at-start = c .before .before .before .before .before .before in
+past-requires : tie.Need-past-requires
+past-requires c κs =
+    let at-start = c .before .before .before .before .before in
     let r = at-start .pre .0 in
     omega arith
 
@@ -50,33 +58,27 @@ symbol-at-requires c κs =
 
 word-requires : tie.Need-word-requires
 word-requires c κs =
-    let at-match = c .before in
-    let at-symbol-at = at-match .before in
+    let at-symbol-at = c .before .before in
     let at-start = at-symbol-at .before .before .before .before .before .before .before in
     let r = at-start .pre .0 in
-    let e = coded (code.Break ∷ []) 13 (at-symbol-at .symbol-at .ensures) (at-match .match .keys1) refl in
-    let l = took (code.Break ∷ []) refl refl (r .tokens) (r .here) e in
-    omega arith
+    let l = alone at-symbol-at code.Break refl refl refl (c .before .match .keys1) in
+    rw (at-symbol-at .before .past .ensures) (omega arith)
 
 word-requires-2 : tie.Need-word-requires-2
 word-requires-2 c κs =
-    let at-match = c .before in
-    let at-symbol-at = at-match .before in
+    let at-symbol-at = c .before .before in
     let at-start = at-symbol-at .before .before .before .before .before .before .before in
     let r = at-start .pre .0 in
-    let e = coded (code.Continue ∷ []) 14 (at-symbol-at .symbol-at .ensures) (at-match .match .keys2) refl in
-    let l = took (code.Continue ∷ []) refl refl (r .tokens) (r .here) e in
-    omega arith
+    let l = alone at-symbol-at code.Continue refl refl refl (c .before .match .keys2) in
+    rw (at-symbol-at .before .past .ensures) (omega arith)
 
 word-requires-3 : tie.Need-word-requires-3
 word-requires-3 c κs =
-    let at-match = c .before in
-    let at-symbol-at = at-match .before in
+    let at-symbol-at = c .before .before in
     let at-start = at-symbol-at .before .before .before .before .before .before .before in
     let r = at-start .pre .0 in
-    let e = coded (code.Pass ∷ []) 15 (at-symbol-at .symbol-at .ensures) (at-match .match .keys3) refl in
-    let l = took (code.Pass ∷ []) refl refl (r .tokens) (r .here) e in
-    omega arith
+    let l = alone at-symbol-at code.Pass refl refl refl (c .before .match .keys3) in
+    rw (at-symbol-at .before .past .ensures) (omega arith)
 
 statement-requires : tie.Need-statement-requires
 statement-requires c κs =
@@ -92,15 +94,11 @@ returns c =
     let at-word = c .before .before in
     let at-match = at-word .before .before in
     let at-symbol-at = at-match .before in
-    let at-start = at-symbol-at .before .before .before .before .before .before .before in
-    let r = at-start .pre .0 in
-    let h = r .here in
     let x = at-symbol-at .symbol-at .ensures in
     let k = at-match .match .keys1 in
-    let e = coded (code.Break ∷ []) 13 x k refl in
-    let l = took (code.Break ∷ []) refl refl (r .tokens) h e in
-    let word = at-word .word .ensures in
-    (open-plain refl (λ vs. or-next h (coded (code.Return ∷ []) 13 x k refl) (or-next h (coded firstE 13 x k refl) (or-first h e (tok-then h e (word .0 _ _ (r .used ∙ sym (l .text)) .comes vs))))), word .1)
+    let l = alone at-symbol-at code.Break refl refl refl k in
+    let word = rw (at-symbol-at .before .past .ensures) at (at-word .word .ensures) in
+    (open-plain refl (λ vs. or-next (l .here) (coded (code.Return ∷ []) 13 x k refl) (or-next (l .here) (coded firstE 13 x k refl) (or-first (l .here) (l .seen) (tok-then (l .here) (l .seen) (word .0 _ _ (l .used) .comes vs))))), word .1)
 
 same-length-2 : tie.Need-same-length-2
 same-length-2 c = search needs
@@ -111,15 +109,11 @@ returns-2 c =
     let at-word2 = c .before .before in
     let at-match = at-word2 .before .before in
     let at-symbol-at = at-match .before in
-    let at-start = at-symbol-at .before .before .before .before .before .before .before in
-    let r = at-start .pre .0 in
-    let h = r .here in
     let x = at-symbol-at .symbol-at .ensures in
     let k = at-match .match .keys2 in
-    let e = coded (code.Continue ∷ []) 14 x k refl in
-    let l = took (code.Continue ∷ []) refl refl (r .tokens) h e in
-    let word = at-word2 .word2 .ensures in
-    (open-plain refl (λ vs. or-next h (coded (code.Return ∷ []) 14 x k refl) (or-next h (coded firstE 14 x k refl) (or-next h (coded (code.Break ∷ []) 14 x k refl) (or-first h e (tok-then h e (word .0 _ _ (r .used ∙ sym (l .text)) .comes vs)))))), word .1)
+    let l = alone at-symbol-at code.Continue refl refl refl k in
+    let word = rw (at-symbol-at .before .past .ensures) at (at-word2 .word2 .ensures) in
+    (open-plain refl (λ vs. or-next (l .here) (coded (code.Return ∷ []) 14 x k refl) (or-next (l .here) (coded firstE 14 x k refl) (or-next (l .here) (coded (code.Break ∷ []) 14 x k refl) (or-first (l .here) (l .seen) (tok-then (l .here) (l .seen) (word .0 _ _ (l .used) .comes vs)))))), word .1)
 
 same-length-3 : tie.Need-same-length-3
 same-length-3 c = search needs
@@ -130,15 +124,11 @@ returns-3 c =
     let at-word3 = c .before .before in
     let at-match = at-word3 .before .before in
     let at-symbol-at = at-match .before in
-    let at-start = at-symbol-at .before .before .before .before .before .before .before in
-    let r = at-start .pre .0 in
-    let h = r .here in
     let x = at-symbol-at .symbol-at .ensures in
     let k = at-match .match .keys3 in
-    let e = coded (code.Pass ∷ []) 15 x k refl in
-    let l = took (code.Pass ∷ []) refl refl (r .tokens) h e in
-    let word = at-word3 .word3 .ensures in
-    (open-plain refl (λ vs. or-next h (coded (code.Return ∷ []) 15 x k refl) (or-next h (coded firstE 15 x k refl) (or-next h (coded (code.Break ∷ []) 15 x k refl) (or-next h (coded (code.Continue ∷ []) 15 x k refl) (tok-then h e (word .0 _ _ (r .used ∙ sym (l .text)) .comes vs)))))), word .1)
+    let l = alone at-symbol-at code.Pass refl refl refl k in
+    let word = rw (at-symbol-at .before .past .ensures) at (at-word3 .word3 .ensures) in
+    (open-plain refl (λ vs. or-next (l .here) (coded (code.Return ∷ []) 15 x k refl) (or-next (l .here) (coded firstE 15 x k refl) (or-next (l .here) (coded (code.Break ∷ []) 15 x k refl) (or-next (l .here) (coded (code.Continue ∷ []) 15 x k refl) (tok-then (l .here) (l .seen) (word .0 _ _ (l .used) .comes vs)))))), word .1)
 
 same-length-4 : tie.Need-same-length-4
 same-length-4 c = search needs
@@ -156,7 +146,7 @@ rule-simple-spec =
     tie.close
     (tie.spec
     add-opened
-    add-t
+    past-requires
     symbol-at-requires
     word-requires
     word-requires-2

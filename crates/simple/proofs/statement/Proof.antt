@@ -37,9 +37,9 @@ is-target-requires c κs =
     let i = at-loop .loop .inv in
     (i .ready .tokens, stating-came i (at-comma-list .comma-list .ensures) (at-inner .inner .given .1) .here)
 
-add-t : tie.Need-add-t Inv-loop μ-loop
-add-t c =
-    let at-inner = c .before .before .before .before .before in
+past-requires : tie.Need-past-requires Inv-loop μ-loop
+past-requires c κs =
+    let at-inner = c .before .before .before .before in
     let at-comma-list = at-inner .before .before .before .before in
     let at-loop = at-comma-list .before .before in
     let i = at-loop .loop .inv in
@@ -57,7 +57,7 @@ loop-less c =
     let r = at-comma-list .comma-list .ensures in
     let e = at-inner .inner .given .1 in
     let v = stating-goes i r e (at-comma-list .comma-list .kept .1 .1 .0) (at-is-target .is-target .ensures) (at-if1 .if1 .taken) in
-    omega (arith, stating-came i r e .on, v .ready .here)
+    rw (c .past .ensures) (omega (arith, stating-came i r e .on, v .ready .here))
 
 loop-again : tie.Need-loop-again Inv-loop μ-loop
 loop-again c =
@@ -67,7 +67,7 @@ loop-again c =
     let at-comma-list = at-inner .before .before .before .before in
     let at-loop = at-comma-list .before .before in
     let i = at-loop .loop .inv in
-    stating-goes i (at-comma-list .comma-list .ensures) (at-inner .inner .given .1) (at-comma-list .comma-list .kept .1 .1 .0) (at-is-target .is-target .ensures) (at-if1 .if1 .taken)
+    rw (c .past .ensures) (stating-goes i (at-comma-list .comma-list .ensures) (at-inner .inner .given .1) (at-comma-list .comma-list .kept .1 .1 .0) (at-is-target .is-target .ensures) (at-if1 .if1 .taken))
 
 put-requires : tie.Need-put-requires Inv-loop μ-loop
 put-requires c κs =
@@ -127,7 +127,7 @@ statement-spec =
     comma-list-requires
     enum-known-inner
     is-target-requires
-    add-t
+    past-requires
     loop-less
     loop-again
     put-requires

@@ -1,11 +1,11 @@
 -- `stmt::dedent` meets its contract: the Dedent behind a list.
 -- Assumes nothing.
-use mathlib.Core.Path.{refl, sym, _∙_}
+use mathlib.Core.Path.{refl}
 use mathlib.Core.List.{[], _∷_}
 use Rattle.token.specs.Code as code
 use Rattle.lookahead.proofs.Tests.{learnt}
-use Rattle.lookahead.proofs.Tokens.{took}
 use Rattle.joint.proofs.Seen.{tok-end, tok-no}
+use Rattle.simple.proofs.Taken.{taken}
 use native.Mathlib.Omega.{arith}
 use borrow.Author.Needs.{needs}
 use Rattle.stmt.proofs.dedent.Statement.{statement}
@@ -19,9 +19,9 @@ symbol-at-requires c κs =
 is-symbol-requires : tie.Need-is-symbol-requires
 is-symbol-requires c κs = search needs
 
-add-t : tie.Need-add-t
-add-t c =
-    let at-start = c .before .before .before .before .before .before .before in
+past-requires : tie.Need-past-requires
+past-requires c κs =
+    let at-start = c .before .before .before .before .before .before in
     let w = at-start .pre .0 in
     let h = at-start .pre .1 .0 in
     omega arith
@@ -29,23 +29,17 @@ add-t c =
 returns : tie.Need-returns
 returns c =
     let at-if1 = c .before in
-    let at-is-symbol = at-if1 .before in
-    let at-symbol-at = at-is-symbol .before in
-    let at-start = at-symbol-at .before .before .before .before in
-    let w = at-start .pre .0 in
-    let h = at-start .pre .1 .0 in
-    let e = learnt (code.Dedent ∷ []) (at-if1 .if1 .taken) (at-is-symbol .is-symbol .ensures) (at-symbol-at .symbol-at .ensures) in
-    let l = took (code.Dedent ∷ []) refl refl w h e in
-    λ room tr. record { comes = λ vs. tok-end h e (at-start .pre .1 .1 ∙ sym (l .text)) }
+    let at-start = at-if1 .before .before .before .before .before .before in
+    let w = at-start .pre in
+    let e = taken (code.Dedent ∷ []) refl refl {s = at-start .args .s} (w .0) (w .1 .0) (w .1 .1) (learnt (code.Dedent ∷ []) (at-if1 .if1 .taken) (at-if1 .before .is-symbol .ensures) (at-if1 .before .before .symbol-at .ensures)) in
+    rw (c .past .ensures) (λ room tr. record { comes = λ vs. tok-end (e .here) (e .seen) (e .used) })
 
 returns-2 : tie.Need-returns-2
 returns-2 c =
-    let at-is-symbol = c .before in
-    let at-symbol-at = at-is-symbol .before in
-    let at-start = at-symbol-at .before .before .before .before in
+    let at-start = c .before .before .before .before .before .before in
     let h = at-start .pre .1 .0 in
-    let e = learnt (code.Dedent ∷ []) (c .if1 .left) (at-is-symbol .is-symbol .ensures) (at-symbol-at .symbol-at .ensures) in
+    let e = learnt (code.Dedent ∷ []) (c .if1 .left) (c .before .is-symbol .ensures) (c .before .before .symbol-at .ensures) in
     λ room tr. record { comes = λ vs. tok-no h (at-start .pre .1 .1) e }
 
 pub dedent-spec : {M : Type 1} → statement M
-dedent-spec = tie.close (tie.spec symbol-at-requires is-symbol-requires add-t returns returns-2)
+dedent-spec = tie.close (tie.spec symbol-at-requires is-symbol-requires past-requires returns returns-2)

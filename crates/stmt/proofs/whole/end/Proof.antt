@@ -32,20 +32,16 @@ returns : tie.Need-returns
 returns c =
     let at-put-program = c .before .before .before .before in
     let at-if1 = at-put-program .before .before in
-    let at-is-symbol = at-if1 .before in
-    let at-symbol-at = at-is-symbol .before in
-    let at-start = at-symbol-at .before .before .before .before .before in
+    let at-start = at-if1 .before .before .before .before .before .before .before in
     let r = at-start .pre in
-    let e = learnt (code.Eof ∷ []) (at-if1 .if1 .taken) (at-is-symbol .is-symbol .ensures) (at-symbol-at .symbol-at .ensures) in
+    let e = learnt (code.Eof ∷ []) (at-if1 .if1 .taken) (at-if1 .before .is-symbol .ensures) (at-if1 .before .before .symbol-at .ensures) in
     λ room. record { comes = λ vs. see-then (r .here) e (act-wrote (r .used) (at-put-program .put-program .ensures _)) }
 
 returns-2 : tie.Need-returns-2
 returns-2 c =
-    let at-is-symbol = c .before in
-    let at-symbol-at = at-is-symbol .before in
-    let at-start = at-symbol-at .before .before .before .before .before in
+    let at-start = c .before .before .before .before .before .before .before in
     let r = at-start .pre in
-    let e = learnt (code.Eof ∷ []) (c .if1 .left) (at-is-symbol .is-symbol .ensures) (at-symbol-at .symbol-at .ensures) in
+    let e = learnt (code.Eof ∷ []) (c .if1 .left) (c .before .is-symbol .ensures) (c .before .before .symbol-at .ensures) in
     λ room. record { comes = λ vs. see-not (r .here) (r .used) e }
 
 pub end-spec : {M : Type 1} → statement M

@@ -79,11 +79,9 @@ returns c =
     let at-body = at-end .before .before .before in
     let at-lines = at-body .before .before .before .before in
     let at-if1 = at-lines .before .before in
-    let at-begins-line = at-if1 .before in
-    let at-symbol-at = at-begins-line .before in
-    let at-skip-newlines = at-symbol-at .before in
+    let at-skip-newlines = at-if1 .before .before .before in
     let n = at-skip-newlines .skip-newlines .ensures in
-    let b = learnt firstLine (at-if1 .if1 .taken) (at-begins-line .begins-line .ensures) (at-symbol-at .symbol-at .ensures) in
+    let b = learnt firstLine (at-if1 .if1 .taken) (at-if1 .before .begins-line .ensures) (at-if1 .before .before .symbol-at .ensures) in
     open-plain refl (λ vs. newlines-pass n (alt-first (n .inside) b (flat-then (at-lines .lines .ensures) (at-body .body .given .1) (at-end .end .ensures _ .comes vs))))
 
 same-length-2 : tie.Need-same-length-2
@@ -95,11 +93,9 @@ returns-2 c =
     let at-body2 = c .before in
     let at-lines = at-body2 .before .before .before .before in
     let at-if1 = at-lines .before .before in
-    let at-begins-line = at-if1 .before in
-    let at-symbol-at = at-begins-line .before in
-    let at-skip-newlines = at-symbol-at .before in
+    let at-skip-newlines = at-if1 .before .before .before in
     let n = at-skip-newlines .skip-newlines .ensures in
-    let b = learnt firstLine (at-if1 .if1 .taken) (at-begins-line .begins-line .ensures) (at-symbol-at .symbol-at .ensures) in
+    let b = learnt firstLine (at-if1 .if1 .taken) (at-if1 .before .begins-line .ensures) (at-if1 .before .before .symbol-at .ensures) in
     open-plain refl (λ vs. newlines-pass n (alt-first (n .inside) b (flat-stop _ vs (at-lines .lines .ensures) (at-body2 .body2 .given .1))))
 
 same-length-3 : tie.Need-same-length-3
@@ -110,11 +106,9 @@ unfolding joined first begins null opens
 returns-3 c =
     let at-end2 = c .before .before in
     let at-if1 = at-end2 .before .before in
-    let at-begins-line = at-if1 .before in
-    let at-symbol-at = at-begins-line .before in
-    let at-skip-newlines = at-symbol-at .before in
+    let at-skip-newlines = at-if1 .before .before .before in
     let n = at-skip-newlines .skip-newlines .ensures in
-    let b = learnt firstLine (at-if1 .if1 .left) (at-begins-line .begins-line .ensures) (at-symbol-at .symbol-at .ensures) in
+    let b = learnt firstLine (at-if1 .if1 .left) (at-if1 .before .begins-line .ensures) (at-if1 .before .before .symbol-at .ensures) in
     open-plain refl (λ vs. newlines-pass n (alt-next (n .inside) b (none-then (at-end2 .end2 .ensures _ .comes vs))))
 
 pub rule-program-spec : {M : Type 1} → statement M

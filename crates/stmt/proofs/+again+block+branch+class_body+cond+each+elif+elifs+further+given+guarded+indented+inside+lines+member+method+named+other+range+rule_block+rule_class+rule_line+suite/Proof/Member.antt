@@ -3,11 +3,11 @@
 use borrow.Author.Needs.{needs}
 use native.Mathlib.Omega.{arith}
 use Prim.Native.Nat.{ℕ}
-use Rattle.stmt.proofs.+again+block+branch+cond+each+elif+elifs+further+given+guarded+indented+inside+lines+member+method+methods+named+other+range+rule_block+rule_class+rule_line+suite.Lts-member as lts
+use Rattle.stmt.proofs.+again+block+branch+class_body+cond+each+elif+elifs+further+given+guarded+indented+inside+lines+member+method+named+other+range+rule_block+rule_class+rule_line+suite.Lts-member as lts
 use Rattle.stmt.proofs.member.Reads as reads
 use Rattle.stmt.proofs.method.Reads as method
 use Rattle.stmt.proofs.elif.Reads as elif
-use Rattle.stmt.proofs.+again+block+branch+cond+each+elif+elifs+further+given+guarded+indented+inside+lines+member+method+methods+named+other+range+rule_block+rule_class+rule_line+suite.Proof.Start.{member-at, method-below, elif-below}
+use Rattle.stmt.proofs.+again+block+branch+class_body+cond+each+elif+elifs+further+given+guarded+indented+inside+lines+member+method+named+other+range+rule_block+rule_class+rule_line+suite.Proof.Start.{member-at, method-below, elif-below}
 
 abbrev calls : ℕ → lts.Claims
 calls t = (method-below t, method.Post, elif-below t, elif.Post)

@@ -6,11 +6,11 @@ use mathlib.Core.List.{[]}
 use borrow.Author.Needs.{needs}
 use native.Mathlib.Omega.{arith}
 use Prim.Native.Nat.{ℕ}
-use Rattle.stmt.proofs.+again+block+branch+cond+each+elif+elifs+further+given+guarded+indented+inside+lines+member+method+methods+named+other+range+rule_block+rule_class+rule_line+suite.Lts-again as lts
+use Rattle.stmt.proofs.+again+block+branch+class_body+cond+each+elif+elifs+further+given+guarded+indented+inside+lines+member+method+named+other+range+rule_block+rule_class+rule_line+suite.Lts-again as lts
 use Rattle.stmt.proofs.again.Reads as reads
 use Rattle.stmt.proofs.guarded.Reads as guarded
 use Rattle.stmt_leaves.proofs.put_while.Reads as put-while-reads
-use Rattle.stmt.proofs.+again+block+branch+cond+each+elif+elifs+further+given+guarded+indented+inside+lines+member+method+methods+named+other+range+rule_block+rule_class+rule_line+suite.Proof.Start.{again-at, guarded-below}
+use Rattle.stmt.proofs.+again+block+branch+class_body+cond+each+elif+elifs+further+given+guarded+indented+inside+lines+member+method+named+other+range+rule_block+rule_class+rule_line+suite.Proof.Start.{again-at, guarded-below}
 
 abbrev calls : ℕ → lts.Claims
 calls t = (guarded-below t, guarded.Post, put-while-reads.Asked, put-while-reads.Learnt)

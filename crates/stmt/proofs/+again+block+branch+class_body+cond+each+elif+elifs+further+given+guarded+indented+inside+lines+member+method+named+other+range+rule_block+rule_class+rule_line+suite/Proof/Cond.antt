@@ -4,11 +4,11 @@ use Rattle.simple.proofs.Newest.{newest-refused}
 use borrow.Author.Needs.{needs}
 use native.Mathlib.Omega.{arith}
 use Prim.Native.Nat.{ℕ}
-use Rattle.stmt.proofs.+again+block+branch+cond+each+elif+elifs+further+given+guarded+indented+inside+lines+member+method+methods+named+other+range+rule_block+rule_class+rule_line+suite.Lts-cond as lts
+use Rattle.stmt.proofs.+again+block+branch+class_body+cond+each+elif+elifs+further+given+guarded+indented+inside+lines+member+method+named+other+range+rule_block+rule_class+rule_line+suite.Lts-cond as lts
 use Rattle.stmt.proofs.cond.Reads as reads
 use Rattle.stmt.proofs.guarded.Reads as guarded
 use Rattle.stmt.proofs.branch.Reads as branch
-use Rattle.stmt.proofs.+again+block+branch+cond+each+elif+elifs+further+given+guarded+indented+inside+lines+member+method+methods+named+other+range+rule_block+rule_class+rule_line+suite.Proof.Start.{cond-at, guarded-below, branch-below}
+use Rattle.stmt.proofs.+again+block+branch+class_body+cond+each+elif+elifs+further+given+guarded+indented+inside+lines+member+method+named+other+range+rule_block+rule_class+rule_line+suite.Proof.Start.{cond-at, guarded-below, branch-below}
 
 abbrev calls : ℕ → lts.Claims
 calls t = (guarded-below t, guarded.Post, branch-below t, branch.Post)

@@ -13,13 +13,13 @@ use Rattle.joint.proofs.Passing.{newlines-pass, run-text}
 use borrow.Author.Needs.{needs}
 use native.Mathlib.Omega.{arith}
 use Prim.Native.Nat.{ℕ}
-use Rattle.stmt.proofs.+again+block+branch+cond+each+elif+elifs+further+given+guarded+indented+inside+lines+member+method+methods+named+other+range+rule_block+rule_class+rule_line+suite.Lts-inside as lts
+use Rattle.stmt.proofs.+again+block+branch+class_body+cond+each+elif+elifs+further+given+guarded+indented+inside+lines+member+method+named+other+range+rule_block+rule_class+rule_line+suite.Lts-inside as lts
 use Rattle.stmt.proofs.inside.Reads as reads
 use Rattle.lookahead.proofs.symbol_at.Reads as symbol-at-reads
 use Rattle.stmt.proofs.begins_lines.Reads as begins-lines-reads
 use Rattle.lookahead.proofs.skip_newlines.Reads as skip-newlines-reads
 use Rattle.stmt.proofs.lines.Reads as lines
-use Rattle.stmt.proofs.+again+block+branch+cond+each+elif+elifs+further+given+guarded+indented+inside+lines+member+method+methods+named+other+range+rule_block+rule_class+rule_line+suite.Proof.Start.{inside-at, lines-below}
+use Rattle.stmt.proofs.+again+block+branch+class_body+cond+each+elif+elifs+further+given+guarded+indented+inside+lines+member+method+named+other+range+rule_block+rule_class+rule_line+suite.Proof.Start.{inside-at, lines-below}
 
 abbrev calls : ℕ → lts.Claims
 calls t = (symbol-at-reads.Asked, symbol-at-reads.Learnt, begins-lines-reads.Asked, begins-lines-reads.Learnt, skip-newlines-reads.Asked, skip-newlines-reads.Learnt, lines-below t, lines.Post)
@@ -56,21 +56,17 @@ module _ (t : ℕ) where
       let at-lines = c .before .before in
       let at-skip-newlines = at-lines .before .before in
       let at-if1 = at-skip-newlines .before in
-      let at-begins-lines = at-if1 .before in
-      let at-symbol-at = at-begins-lines .before in
-      let at-start = at-symbol-at .before .before .before .before .before in
+      let at-start = at-if1 .before .before .before .before .before .before .before in
       let r = at-start .pre .1 in
-      let b = learnt (code.Newline ∷ firstLine) (at-if1 .if1 .taken) (at-begins-lines .begins-lines .ensures) (at-symbol-at .symbol-at .ensures) in
+      let b = learnt (code.Newline ∷ firstLine) (at-if1 .if1 .taken) (at-if1 .before .begins-lines .ensures) (at-if1 .before .before .symbol-at .ensures) in
       record { comes = λ vs. or-first (r .here) b (newlines-pass (at-skip-newlines .skip-newlines .ensures) (at-lines .lines .ensures .comes vs)) }
 
   returns-2 : lts.Need-returns-2 (calls t) (inside-at t) reads.Post
   unfolding first begins null
   returns-2 c =
-      let at-begins-lines = c .before in
-      let at-symbol-at = at-begins-lines .before in
-      let at-start = at-symbol-at .before .before .before .before .before in
+      let at-start = c .before .before .before .before .before .before .before in
       let r = at-start .pre .1 in
-      let b = learnt (code.Newline ∷ firstLine) (c .if1 .left) (at-begins-lines .begins-lines .ensures) (at-symbol-at .symbol-at .ensures) in
+      let b = learnt (code.Newline ∷ firstLine) (c .if1 .left) (c .before .begins-lines .ensures) (c .before .before .symbol-at .ensures) in
       record { comes = λ vs. or-next (r .here) b (none-last (r .used)) }
 
   pub meets : {M : Type 1} → lts.Closed (calls t) (inside-at t) reads.Post M

@@ -7,7 +7,7 @@ use Rattle.joint.proofs.Loops.{ready-of}
 use Rattle.joint.proofs.Ends.{one-then, none-last}
 use Rattle.joint.proofs.Chain.{flat, flat-then, flat-stop, or-first, or-next}
 use Rattle.joint.proofs.Counts.{came-start, came-node}
-use Rattle.lookahead.proofs.Tokens.{before-eof}
+use Rattle.simple.proofs.Taken.{Taken, taken-ready}
 use Rattle.lookahead.proofs.Tests.{learnt}
 use Rattle.grammar.specs.Descent.{null, begins}
 use Rattle.token.specs.Code as code
@@ -16,18 +16,24 @@ use mathlib.Core.List.{[], _∷_}
 use borrow.Author.Needs.{needs}
 use native.Mathlib.Omega.{arith}
 use Prim.Native.Nat.{ℕ}
-use Rattle.stmt.proofs.+again+block+branch+cond+each+elif+elifs+further+given+guarded+indented+inside+lines+member+method+methods+named+other+range+rule_block+rule_class+rule_line+suite.Lts-elifs as lts
+use Rattle.stmt.proofs.+again+block+branch+class_body+cond+each+elif+elifs+further+given+guarded+indented+inside+lines+member+method+named+other+range+rule_block+rule_class+rule_line+suite.Lts-elifs as lts
 use Rattle.stmt.proofs.elifs.Reads as reads
 use Rattle.lookahead.proofs.symbol_at.Reads as symbol-at-reads
 use Rattle.lookahead.proofs.is_symbol.Reads as is-symbol-reads
 use Rattle.stmt.proofs.elif.Reads as elif
 use Rattle.stmt.proofs.further.Reads as further
-use Rattle.stmt.proofs.+again+block+branch+cond+each+elif+elifs+further+given+guarded+indented+inside+lines+member+method+methods+named+other+range+rule_block+rule_class+rule_line+suite.Proof.Start.{elifs-at, elif-below, further-below}
+use Rattle.stmt.proofs.+again+block+branch+class_body+cond+each+elif+elifs+further+given+guarded+indented+inside+lines+member+method+named+other+range+rule_block+rule_class+rule_line+suite.Proof.Start.{elifs-at, elif-below, further-below}
 
 abbrev calls : ℕ → lts.Claims
 calls t = (symbol-at-reads.Asked, symbol-at-reads.Learnt, is-symbol-reads.Asked, is-symbol-reads.Learnt, elif-below t, elif.Post, further-below t, further.Post)
 
 module _ (t : ℕ) where
+  -- where `elif` stands
+  keyword : (c : lts.Then1 (calls t) (elifs-at t) reads.Post) → let at-start = c .before .before .before .before .before .before .before in Taken (at-start .args .src .now) (at-start .args .toks .now) (code.Elif ∷ []) (at-start .args .s)
+  keyword c =
+      let at-start = c .before .before .before .before .before .before .before in
+      taken-ready (code.Elif ∷ []) refl refl (at-start .pre .1) (learnt (code.Elif ∷ []) (c .if1 .taken) (c .before .is-symbol .ensures) (c .before .before .symbol-at .ensures))
+
   symbol-at-requires : lts.Need-symbol-at-requires (calls t) (elifs-at t) reads.Post
   symbol-at-requires c κs =
       let at-start = c .before .before .before .before in
@@ -39,12 +45,8 @@ module _ (t : ℕ) where
   elif-requires : lts.Need-elif-requires (calls t) (elifs-at t) reads.Post
   elif-requires c κs =
       let at-if1 = c .before in
-      let at-is-symbol = at-if1 .before in
-      let at-symbol-at = at-is-symbol .before in
-      let at-start = at-symbol-at .before .before .before .before .before in
-      let r = at-start .pre .1 in
-      let e = learnt (code.Elif ∷ []) (at-if1 .if1 .taken) (at-is-symbol .is-symbol .ensures) (at-symbol-at .symbol-at .ensures) in
-      (omega arith, (r, e))
+      let at-start = at-if1 .before .before .before .before .before .before .before in
+      (omega arith, (at-start .pre .1, keyword at-if1 .seen))
 
   enum-known-one : lts.Need-enum-known-one (calls t) (elifs-at t) reads.Post
   enum-known-one c = search needs
@@ -54,13 +56,10 @@ module _ (t : ℕ) where
       let at-one = c .before .before in
       let at-elif = at-one .before .before .before .before in
       let at-if1 = at-elif .before .before in
-      let at-is-symbol = at-if1 .before in
-      let at-symbol-at = at-is-symbol .before in
-      let at-start = at-symbol-at .before .before .before .before .before in
+      let at-start = at-if1 .before .before .before .before .before .before .before in
       let r = at-start .pre .1 in
-      let e = learnt (code.Elif ∷ []) (at-if1 .if1 .taken) (at-is-symbol .is-symbol .ensures) (at-symbol-at .symbol-at .ensures) in
-      let lt = before-eof (code.Elif ∷ []) refl (r .tokens) (r .here) e in
-      let g = came-start _ _ (r .tokens) taking-elif lt (at-elif .elif .ensures) (at-one .one .given .1) in
+      let e = keyword at-if1 in
+      let g = came-start _ _ (r .tokens) taking-elif (omega (arith, e .inside)) (at-elif .elif .ensures) (at-one .one .given .1) in
       (omega arith, (ready-of (r .tokens) (omega arith), came-node g))
 
   enum-known-one-2 : lts.Need-enum-known-one-2 (calls t) (elifs-at t) reads.Post
@@ -75,13 +74,8 @@ module _ (t : ℕ) where
       let at-further = c .before .before in
       let at-one = at-further .before .before .before in
       let at-elif = at-one .before .before .before .before in
-      let at-if1 = at-elif .before .before in
-      let at-is-symbol = at-if1 .before in
-      let at-symbol-at = at-is-symbol .before in
-      let at-start = at-symbol-at .before .before .before .before .before in
-      let r = at-start .pre .1 in
-      let e = learnt (code.Elif ∷ []) (at-if1 .if1 .taken) (at-is-symbol .is-symbol .ensures) (at-symbol-at .symbol-at .ensures) in
-      record { comes = λ vs. or-first (r .here) e (flat (flat-then {p = elifOn} (at-elif .elif .ensures) (at-one .one .given .1) (one-then (rest-last _ _ (at-further .further .ensures))))) }
+      let e = keyword (at-elif .before .before) in
+      record { comes = λ vs. or-first (e .here) (e .seen) (flat (flat-then {p = elifOn} (at-elif .elif .ensures) (at-one .one .given .1) (one-then (rest-last _ _ (at-further .further .ensures))))) }
 
   same-length-2 : lts.Need-same-length-2 (calls t) (elifs-at t) reads.Post
   same-length-2 c = search needs
@@ -91,22 +85,15 @@ module _ (t : ℕ) where
   returns-2 c =
       let at-one2 = c .before in
       let at-elif = at-one2 .before .before .before .before in
-      let at-if1 = at-elif .before .before in
-      let at-is-symbol = at-if1 .before in
-      let at-symbol-at = at-is-symbol .before in
-      let at-start = at-symbol-at .before .before .before .before .before in
-      let r = at-start .pre .1 in
-      let e = learnt (code.Elif ∷ []) (at-if1 .if1 .taken) (at-is-symbol .is-symbol .ensures) (at-symbol-at .symbol-at .ensures) in
-      record { comes = λ vs. or-first (r .here) e (flat (flat-stop {p = elifOn} _ _ (at-elif .elif .ensures) (at-one2 .one2 .given .1))) }
+      let e = keyword (at-elif .before .before) in
+      record { comes = λ vs. or-first (e .here) (e .seen) (flat (flat-stop {p = elifOn} _ _ (at-elif .elif .ensures) (at-one2 .one2 .given .1))) }
 
   returns-3 : lts.Need-returns-3 (calls t) (elifs-at t) reads.Post
   unfolding begins null
   returns-3 c =
-      let at-is-symbol = c .before in
-      let at-symbol-at = at-is-symbol .before in
-      let at-start = at-symbol-at .before .before .before .before .before in
+      let at-start = c .before .before .before .before .before .before .before in
       let r = at-start .pre .1 in
-      let e = learnt (code.Elif ∷ []) (c .if1 .left) (at-is-symbol .is-symbol .ensures) (at-symbol-at .symbol-at .ensures) in
+      let e = learnt (code.Elif ∷ []) (c .if1 .left) (c .before .is-symbol .ensures) (c .before .before .symbol-at .ensures) in
       record { comes = λ vs. or-next (r .here) e (none-last (r .used)) }
 
   pub meets : {M : Type 1} → lts.Closed (calls t) (elifs-at t) reads.Post M

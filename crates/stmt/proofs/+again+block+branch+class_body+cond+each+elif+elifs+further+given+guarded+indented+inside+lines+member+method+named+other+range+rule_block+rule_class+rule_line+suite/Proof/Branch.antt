@@ -10,12 +10,12 @@ use mathlib.Core.List.{[]}
 use borrow.Author.Needs.{needs}
 use native.Mathlib.Omega.{arith}
 use Prim.Native.Nat.{ℕ}
-use Rattle.stmt.proofs.+again+block+branch+cond+each+elif+elifs+further+given+guarded+indented+inside+lines+member+method+methods+named+other+range+rule_block+rule_class+rule_line+suite.Lts-branch as lts
+use Rattle.stmt.proofs.+again+block+branch+class_body+cond+each+elif+elifs+further+given+guarded+indented+inside+lines+member+method+named+other+range+rule_block+rule_class+rule_line+suite.Lts-branch as lts
 use Rattle.stmt.proofs.branch.Reads as reads
 use Rattle.stmt.proofs.elifs.Reads as elifs
 use Rattle.stmt.proofs.other.Reads as other
 use Rattle.stmt_leaves.proofs.put_if.Reads as put-if-reads
-use Rattle.stmt.proofs.+again+block+branch+cond+each+elif+elifs+further+given+guarded+indented+inside+lines+member+method+methods+named+other+range+rule_block+rule_class+rule_line+suite.Proof.Start.{branch-at, elifs-below, other-below}
+use Rattle.stmt.proofs.+again+block+branch+class_body+cond+each+elif+elifs+further+given+guarded+indented+inside+lines+member+method+named+other+range+rule_block+rule_class+rule_line+suite.Proof.Start.{branch-at, elifs-below, other-below}
 
 abbrev calls : ℕ → lts.Claims
 calls t = (elifs-below t, elifs.Post, other-below t, other.Post, put-if-reads.Asked, put-if-reads.Learnt)

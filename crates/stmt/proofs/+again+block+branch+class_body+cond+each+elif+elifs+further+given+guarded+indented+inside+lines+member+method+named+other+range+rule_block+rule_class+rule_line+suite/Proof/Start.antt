@@ -11,6 +11,8 @@ use Rattle.stmt.proofs.block.Reads as block
 use Rattle.stmt.proofs.block.Kinds as block-kinds
 use Rattle.stmt.proofs.branch.Reads as branch
 use Rattle.stmt.proofs.branch.Kinds as branch-kinds
+use Rattle.stmt.proofs.class_body.Reads as class-body
+use Rattle.stmt.proofs.class_body.Kinds as class-body-kinds
 use Rattle.stmt.proofs.cond.Reads as cond
 use Rattle.stmt.proofs.cond.Kinds as cond-kinds
 use Rattle.stmt.proofs.each.Reads as each
@@ -35,8 +37,6 @@ use Rattle.stmt.proofs.member.Reads as member
 use Rattle.stmt.proofs.member.Kinds as member-kinds
 use Rattle.stmt.proofs.method.Reads as method
 use Rattle.stmt.proofs.method.Kinds as method-kinds
-use Rattle.stmt.proofs.methods.Reads as methods
-use Rattle.stmt.proofs.methods.Kinds as methods-kinds
 use Rattle.stmt.proofs.named.Reads as named
 use Rattle.stmt.proofs.named.Kinds as named-kinds
 use Rattle.stmt.proofs.other.Reads as other
@@ -60,6 +60,9 @@ abbrev pub μ-block : Measures 3 block-kinds.ps ℕ
 
 abbrev pub μ-branch : Measures 3 branch-kinds.ps ℕ
 μ-branch κs a = 8 * (length (a .1 .0 .now) - 3 * a .1 .1 .1 .1 .1 .1 .1 .0 .at .0) + 2
+
+abbrev pub μ-class-body : Measures 3 class-body-kinds.ps ℕ
+μ-class-body κs a = 8 * (length (a .1 .0 .now) - 3 * a .1 .1 .1 .1 .1 .1 .0 .at .0) + 0
 
 abbrev pub μ-cond : Measures 3 cond-kinds.ps ℕ
 μ-cond κs a = 8 * (length (a .1 .0 .now) - 3 * a .1 .1 .1 .1 .1 .0 .at .0) + 1
@@ -96,9 +99,6 @@ abbrev pub μ-member : Measures 3 member-kinds.ps ℕ
 
 abbrev pub μ-method : Measures 3 method-kinds.ps ℕ
 μ-method κs a = 8 * (length (a .1 .0 .now) - 3 * a .1 .1 .1 .1 .0 .at .0) + 0
-
-abbrev pub μ-methods : Measures 3 methods-kinds.ps ℕ
-μ-methods κs a = 8 * (length (a .1 .0 .now) - 3 * a .1 .1 .1 .1 .1 .1 .0 .at .0) + 0
 
 abbrev pub μ-named : Measures 3 named-kinds.ps ℕ
 μ-named κs a = 8 * (length (a .1 .0 .now) - 3 * a .1 .1 .1 .1 .1 .1 .0 .at .0) + 0
@@ -138,6 +138,12 @@ branch-at t = and 3 branch-kinds.ps (is 3 branch-kinds.ps μ-branch t) branch.Pr
 
 abbrev pub branch-below : ℕ → In 3 branch-kinds.ps
 branch-below t = and 3 branch-kinds.ps (falls 3 branch-kinds.ps _<_ μ-branch t) branch.Pre
+
+abbrev pub class-body-at : ℕ → In 3 class-body-kinds.ps
+class-body-at t = and 3 class-body-kinds.ps (is 3 class-body-kinds.ps μ-class-body t) class-body.Pre
+
+abbrev pub class-body-below : ℕ → In 3 class-body-kinds.ps
+class-body-below t = and 3 class-body-kinds.ps (falls 3 class-body-kinds.ps _<_ μ-class-body t) class-body.Pre
 
 abbrev pub cond-at : ℕ → In 3 cond-kinds.ps
 cond-at t = and 3 cond-kinds.ps (is 3 cond-kinds.ps μ-cond t) cond.Pre
@@ -210,12 +216,6 @@ method-at t = and 3 method-kinds.ps (is 3 method-kinds.ps μ-method t) method.Pr
 
 abbrev pub method-below : ℕ → In 3 method-kinds.ps
 method-below t = and 3 method-kinds.ps (falls 3 method-kinds.ps _<_ μ-method t) method.Pre
-
-abbrev pub methods-at : ℕ → In 3 methods-kinds.ps
-methods-at t = and 3 methods-kinds.ps (is 3 methods-kinds.ps μ-methods t) methods.Pre
-
-abbrev pub methods-below : ℕ → In 3 methods-kinds.ps
-methods-below t = and 3 methods-kinds.ps (falls 3 methods-kinds.ps _<_ μ-methods t) methods.Pre
 
 abbrev pub named-at : ℕ → In 3 named-kinds.ps
 named-at t = and 3 named-kinds.ps (is 3 named-kinds.ps μ-named t) named.Pre

@@ -8,12 +8,12 @@ use Rattle.joint.proofs.Chain.{called, no-call}
 use borrow.Author.Needs.{needs}
 use native.Mathlib.Omega.{arith}
 use Prim.Native.Nat.{ℕ}
-use Rattle.stmt.proofs.+again+block+branch+cond+each+elif+elifs+further+given+guarded+indented+inside+lines+member+method+methods+named+other+range+rule_block+rule_class+rule_line+suite.Lts-block as lts
+use Rattle.stmt.proofs.+again+block+branch+class_body+cond+each+elif+elifs+further+given+guarded+indented+inside+lines+member+method+named+other+range+rule_block+rule_class+rule_line+suite.Lts-block as lts
 use Rattle.stmt.proofs.block.Reads as reads
 use Rattle.lookahead.proofs.symbol_at.Reads as symbol-at-reads
 use Rattle.lookahead.proofs.is_symbol.Reads as is-symbol-reads
 use Rattle.stmt.proofs.rule_block.Reads as rule-block
-use Rattle.stmt.proofs.+again+block+branch+cond+each+elif+elifs+further+given+guarded+indented+inside+lines+member+method+methods+named+other+range+rule_block+rule_class+rule_line+suite.Proof.Start.{block-at, rule-block-below}
+use Rattle.stmt.proofs.+again+block+branch+class_body+cond+each+elif+elifs+further+given+guarded+indented+inside+lines+member+method+named+other+range+rule_block+rule_class+rule_line+suite.Proof.Start.{block-at, rule-block-below}
 
 abbrev calls : ℕ → lts.Claims
 calls t = (symbol-at-reads.Asked, symbol-at-reads.Learnt, is-symbol-reads.Asked, is-symbol-reads.Learnt, rule-block-below t, rule-block.Post)
@@ -31,10 +31,8 @@ module _ (t : ℕ) where
   unfolding first
   rule-block-requires c κs =
       let at-if1 = c .before in
-      let at-is-symbol = at-if1 .before in
-      let at-symbol-at = at-is-symbol .before in
-      let at-start = at-symbol-at .before .before .before .before .before in
-      let e = learnt (code.Colon ∷ []) (at-if1 .if1 .taken) (at-is-symbol .is-symbol .ensures) (at-symbol-at .symbol-at .ensures) in
+      let at-start = at-if1 .before .before .before .before .before .before .before in
+      let e = learnt (code.Colon ∷ []) (at-if1 .if1 .taken) (at-if1 .before .is-symbol .ensures) (at-if1 .before .before .symbol-at .ensures) in
       (omega (arith, at-start .pre .0), (at-start .pre .1, record { seen = e }))
 
   same-length : lts.Need-same-length (calls t) (block-at t) reads.Post
@@ -45,21 +43,17 @@ module _ (t : ℕ) where
   returns c =
       let at-rule-block = c .before .before in
       let at-if1 = at-rule-block .before .before in
-      let at-is-symbol = at-if1 .before in
-      let at-symbol-at = at-is-symbol .before in
-      let at-start = at-symbol-at .before .before .before .before .before in
+      let at-start = at-if1 .before .before .before .before .before .before .before in
       let r = at-start .pre .1 in
-      let e = learnt (code.Colon ∷ []) (at-if1 .if1 .taken) (at-is-symbol .is-symbol .ensures) (at-symbol-at .symbol-at .ensures) in
+      let e = learnt (code.Colon ∷ []) (at-if1 .if1 .taken) (at-if1 .before .is-symbol .ensures) (at-if1 .before .before .symbol-at .ensures) in
       called (r .here) e (at-rule-block .rule-block .ensures)
 
   returns-2 : lts.Need-returns-2 (calls t) (block-at t) reads.Post
   unfolding first
   returns-2 c =
-      let at-is-symbol = c .before in
-      let at-symbol-at = at-is-symbol .before in
-      let at-start = at-symbol-at .before .before .before .before .before in
+      let at-start = c .before .before .before .before .before .before .before in
       let r = at-start .pre .1 in
-      let e = learnt (code.Colon ∷ []) (c .if1 .left) (at-is-symbol .is-symbol .ensures) (at-symbol-at .symbol-at .ensures) in
+      let e = learnt (code.Colon ∷ []) (c .if1 .left) (c .before .is-symbol .ensures) (c .before .before .symbol-at .ensures) in
       no-call (r .here) (r .used) e
 
   pub meets : {M : Type 1} → lts.Closed (calls t) (block-at t) reads.Post M
