@@ -2,6 +2,7 @@ pub mod Chain
 pub mod Counts
 pub mod Bounds
 pub mod Ends
+pub mod Taken
 pub mod Loops
 pub mod Passing
 pub mod Promised

@@ -30,7 +30,7 @@ use Rattle.simple.specs.declared.Gathered.the-variants as gathered
 use Rattle.simple.specs.Parts.{Newest, lineEnd}
 use Rattle.simple.specs.Lists.{Held, Joined}
 use Rattle.simple.proofs.Low.{low-simples}
-use Rattle.simple.proofs.Taken.{Taken}
+use Rattle.joint.proofs.Taken.{Taken}
 use Rattle.simple.proofs.Gathering.{Gathering, gathering-read, gathering-came, gathering-room, gathering-held, joined-then, held-list}
 
 -- all after the first Simple

@@ -29,7 +29,7 @@ use Rattle.simple.specs.declared.Role.{Role}
 use Rattle.simple.specs.declared.Role.the-variants as role
 use Rattle.simple.specs.Roles.{does, behind, stated, hand, targets, Placed}
 use Rattle.simple.proofs.Low.{modest-t, some-t}
-use Rattle.simple.proofs.Taken.{Taken, taken, taken-ready}
+use Rattle.joint.proofs.Taken.{Taken, taken, taken-ready}
 
 -- where a keyword, or a target, lies
 pub placed-return : {k : TokenNumber} {s : State} → k .0 < s .at .0 → Placed (role.Return k) s

@@ -8,7 +8,7 @@ use Rattle.token.specs.Code as code
 use native.Mathlib.Omega.{arith}
 use mathlib.Core.Path.{refl}
 use mathlib.Core.List.{[], _∷_}
-use Rattle.simple.proofs.Taken.{taken}
+use Rattle.joint.proofs.Taken.{taken}
 use Rattle.simple.proofs.line_end.Statement.{statement}
 use Rattle.simple.proofs.line_end.Tie as tie
 

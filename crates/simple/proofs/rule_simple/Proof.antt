@@ -14,7 +14,7 @@ use Rattle.pyhyeon.specs.Tables.{joined, first, opens, firstE}
 use Rattle.lookahead.proofs.Tests.{coded}
 use Rattle.joint.proofs.Chain.{open-plain, tok-then, or-first, or-next}
 use Rattle.simple.proofs.Stating.{Opening, opening-return, opening-other}
-use Rattle.simple.proofs.Taken.{Taken, taken-ready}
+use Rattle.joint.proofs.Taken.{Taken, taken-ready}
 use borrow.Author.Needs.{needs}
 use Rattle.simple.proofs.rule_simple.Statement.{statement}
 use Rattle.simple.proofs.rule_simple.Tie as tie

@@ -11,7 +11,7 @@ use Rattle.lookahead.proofs.Tests.{learnt}
 use Rattle.leaves.specs.Contract.{a-node}
 use Rattle.joint.proofs.Chain.{part-stop, not-called}
 use Rattle.joint.proofs.Counts.{Came}
-use Rattle.simple.proofs.Taken.{Taken, taken}
+use Rattle.joint.proofs.Taken.{Taken, taken}
 use Rattle.simple.proofs.Gathering.{gathering-starts}
 use Rattle.simple.proofs.OneLine.{item, Reading, simples-stop, simples-came, simples-room, simples-held, simples-end, simples-shut, simples-goes}
 use borrow.Author.Needs.{needs}

@@ -5,7 +5,7 @@ use mathlib.Core.List.{[], _∷_}
 use Rattle.token.specs.Code as code
 use Rattle.lookahead.proofs.Tests.{learnt}
 use Rattle.joint.proofs.Seen.{tok-end, tok-no}
-use Rattle.simple.proofs.Taken.{taken}
+use Rattle.joint.proofs.Taken.{taken}
 use native.Mathlib.Omega.{arith}
 use borrow.Author.Needs.{needs}
 use Rattle.stmt.proofs.dedent.Statement.{statement}

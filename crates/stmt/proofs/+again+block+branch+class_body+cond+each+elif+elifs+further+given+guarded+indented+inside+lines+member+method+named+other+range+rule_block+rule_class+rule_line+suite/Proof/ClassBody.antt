@@ -9,7 +9,7 @@ use Rattle.joint.proofs.Ends.{one-then, done-then}
 use Rattle.joint.proofs.Loops.{ready-of}
 use Rattle.joint.proofs.Counts.{passed-start, passed-node}
 use Rattle.simple.proofs.Newest.{newest-refused}
-use Rattle.simple.proofs.Taken.{Taken, taken-ready}
+use Rattle.joint.proofs.Taken.{Taken, taken-ready}
 use Rattle.stmt.proofs.Classes.{modest-method}
 use borrow.Author.Needs.{needs}
 use native.Mathlib.Omega.{arith}

@@ -4,7 +4,7 @@ use Rattle.joint.proofs.Loops.{ready-of}
 use Rattle.joint.proofs.Ends.{tok-mark}
 use Rattle.joint.proofs.Chain.{flat, tok-then, tok-not}
 use Rattle.simple.proofs.Newest.{newest-refused}
-use Rattle.simple.proofs.Taken.{Taken, taken-ready, taken-next}
+use Rattle.joint.proofs.Taken.{Taken, taken-ready, taken-next}
 use Rattle.lookahead.proofs.Tests.{learnt}
 use Rattle.pyhyeon.specs.Rules.{names}
 use Rattle.token.specs.Code as code

@@ -2,7 +2,7 @@
 -- Assumes nothing.
 use Rattle.joint.proofs.Ends.{act-wrote, tok-mark}
 use Rattle.joint.proofs.Loops.{ready-of}
-use Rattle.simple.proofs.Taken.{taken-ready}
+use Rattle.joint.proofs.Taken.{taken-ready}
 use Rattle.token.specs.Code as code
 use mathlib.Core.Path.{refl}
 use mathlib.Core.List.{[], _∷_}

@@ -7,7 +7,7 @@ use Rattle.joint.proofs.Loops.{ready-of}
 use Rattle.joint.proofs.Ends.{one-then, none-last}
 use Rattle.joint.proofs.Chain.{flat, flat-then, flat-stop, or-first, or-next}
 use Rattle.joint.proofs.Counts.{came-start, came-node}
-use Rattle.simple.proofs.Taken.{Taken, taken-ready}
+use Rattle.joint.proofs.Taken.{Taken, taken-ready}
 use Rattle.lookahead.proofs.Tests.{learnt}
 use Rattle.grammar.specs.Descent.{null, begins}
 use Rattle.token.specs.Code as code

@@ -11,7 +11,7 @@ use Rattle.joint.proofs.Ends.{act-wrote}
 use Rattle.joint.proofs.Loops.{ready-of}
 use Rattle.joint.proofs.Counts.{came-call, pays-block}
 use Rattle.simple.proofs.Newest.{newest-wrote, newest-refused}
-use Rattle.simple.proofs.Taken.{Taken, taken}
+use Rattle.joint.proofs.Taken.{Taken, taken}
 use Rattle.expr.proofs.Low.{modest-parameters}
 use borrow.Author.Needs.{needs}
 use native.Mathlib.Omega.{arith}

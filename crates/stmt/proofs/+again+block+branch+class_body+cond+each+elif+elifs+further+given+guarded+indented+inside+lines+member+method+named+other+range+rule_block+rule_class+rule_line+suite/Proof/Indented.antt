@@ -7,7 +7,7 @@ use Rattle.lookahead.proofs.Tests.{learnt}
 use Rattle.joint.proofs.Chain.{tok-then, tok-not, part-then, part-stop}
 use Rattle.joint.proofs.Loops.{ready-of}
 use Rattle.joint.proofs.Counts.{passed-start}
-use Rattle.simple.proofs.Taken.{Taken, taken-ready}
+use Rattle.joint.proofs.Taken.{Taken, taken-ready}
 use Rattle.stmt.proofs.Blocks.{modest-inner}
 use borrow.Author.Needs.{needs}
 use native.Mathlib.Omega.{arith}

@@ -4,7 +4,7 @@ use Rattle.joint.proofs.Loops.{ready-of}
 use Rattle.joint.proofs.Ends.{tok-mark, wrote-then, one-then, list-last, none-last}
 use Rattle.joint.proofs.Chain.{part-then, part-stop, or-first, or-next}
 use Rattle.joint.proofs.Counts.{came-call, pays-block}
-use Rattle.simple.proofs.Taken.{Taken, taken-ready}
+use Rattle.joint.proofs.Taken.{Taken, taken-ready}
 use Rattle.lookahead.proofs.Tests.{learnt}
 use Rattle.pyhyeon.specs.Tables.{first, rank}
 use Rattle.grammar.specs.Descent.{null, begins}

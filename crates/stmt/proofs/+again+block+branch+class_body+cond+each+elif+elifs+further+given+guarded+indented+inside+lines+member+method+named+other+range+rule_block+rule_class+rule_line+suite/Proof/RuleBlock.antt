@@ -8,7 +8,7 @@ use Rattle.pyhyeon.specs.Tables.{joined, first, opens}
 use Rattle.lookahead.proofs.Tests.{learnt}
 use Rattle.joint.proofs.Chain.{tok-then, or-first, or-next, open-deep, open-room}
 use Rattle.joint.proofs.Loops.{ready-of}
-use Rattle.simple.proofs.Taken.{Taken, taken-ready, taken-next}
+use Rattle.joint.proofs.Taken.{Taken, taken-ready, taken-next}
 use Rattle.joint.proofs.Passing.{newlines-pass, run-text}
 use Rattle.stmt.proofs.Blocks.{list-through}
 use Rattle.leaves.specs.Contract.{past}

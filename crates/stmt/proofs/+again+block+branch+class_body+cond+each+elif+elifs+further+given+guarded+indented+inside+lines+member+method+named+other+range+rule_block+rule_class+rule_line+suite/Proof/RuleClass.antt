@@ -10,7 +10,7 @@ use Rattle.joint.proofs.Chain.{tok-not, flat, open-plain}
 use Rattle.joint.proofs.Ends.{tok-mark}
 use Rattle.joint.proofs.Loops.{ready-of}
 use Rattle.simple.proofs.Newest.{newest-refused}
-use Rattle.simple.proofs.Taken.{Taken, taken-ready, taken-next}
+use Rattle.joint.proofs.Taken.{Taken, taken-ready, taken-next}
 use Rattle.leaves.specs.Contract.{past}
 use borrow.Author.Needs.{needs}
 use native.Mathlib.Omega.{arith}

@@ -12,7 +12,7 @@ use Rattle.lookahead.proofs.Tests.{coded, not-first}
 use Rattle.joint.proofs.Chain.{called, or-first, or-next, alt-first, alt-next, open-plain}
 use Rattle.joint.proofs.Ends.{tok-mark}
 use Rattle.joint.proofs.Loops.{ready-of}
-use Rattle.simple.proofs.Taken.{Taken, taken-ready}
+use Rattle.joint.proofs.Taken.{Taken, taken-ready}
 use Rattle.stmt.proofs.Blocks.{one-through}
 use borrow.Author.Needs.{needs}
 use native.Mathlib.Omega.{arith}

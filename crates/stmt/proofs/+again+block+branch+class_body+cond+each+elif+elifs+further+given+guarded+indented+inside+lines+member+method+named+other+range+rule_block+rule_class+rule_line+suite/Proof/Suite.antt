@@ -8,7 +8,7 @@ use Rattle.joint.proofs.Chain.{tok-then, tok-not}
 use Rattle.joint.proofs.Passing.{newlines-pass, run-text}
 use Rattle.joint.proofs.Loops.{ready-of}
 use Rattle.simple.proofs.Newest.{newest-refused}
-use Rattle.simple.proofs.Taken.{Taken, taken-ready, taken-next}
+use Rattle.joint.proofs.Taken.{Taken, taken-ready, taken-next}
 use Rattle.leaves.specs.Contract.{past}
 use borrow.Author.Needs.{needs}
 use native.Mathlib.Omega.{arith}
