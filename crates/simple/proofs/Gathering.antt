@@ -24,7 +24,7 @@ use Rattle.joint.proofs.Counts.{Pays, Came, came-rule}
 use Rattle.joint.proofs.Ends.{changed-then}
 use Rattle.simple.specs.declared.Gathered.{Gathered}
 use Rattle.simple.specs.declared.Gathered.the-variants as gathered
-use Rattle.simple.specs.Lists.{Held, Joined}
+use Rattle.simple.specs.Lists.{Held, Appended}
 
 -- the values at hand before a statement, and what is done with it before q
 abbrev pub hand : Gathered → List Value
@@ -45,22 +45,22 @@ held-list {f} {l} h = record { last = λ f₁ l₁ e. let a : l ≡ l₁ = cc in
 pub held-later : {b : Gathered} {s s′ : State} → s .nodes ≤ s′ .nodes → Held b s → Held b s′
 held-later k w = record { last = λ f l e. omega (arith, w .last f l e, k) }
 
--- the two answers of `joined`
+-- the two answers of `append`
 module _ {src toks : List ℕ} {n : NodeNumber} {s : State} {tr : List ℕ} where
-  pub joined-alone : Joined src toks gathered.Nothing n s tr n tr
-  joined-alone = record { alone = λ e. (refl, refl); both = λ f l e. let z : _≡_ {A = ℕ} 0 1 = cc in absurd (omega arith) }
+  pub appended-alone : Appended src toks gathered.Nothing n s tr n tr
+  appended-alone = record { alone = λ e. (refl, refl); both = λ f l e. let z : _≡_ {A = ℕ} 0 1 = cc in absurd (omega arith) }
 
-  pub joined-both : {f l : NodeNumber} {tr′ : List ℕ} → ((m : ℕ) → Changes src toks list-join (growing (n .0) m ∷ growing (f .0) (l .0) ∷ []) (growing (f .0) m ∷ []) s tr tr′) → Joined src toks (gathered.List f l) n s tr f tr′
-  joined-both {f} {l} w = record {
+  pub appended-both : {f l : NodeNumber} {tr′ : List ℕ} → ((m : ℕ) → Changes src toks list-join (growing (n .0) m ∷ growing (f .0) (l .0) ∷ []) (growing (f .0) m ∷ []) s tr tr′) → Appended src toks (gathered.List f l) n s tr f tr′
+  appended-both {f} {l} w = record {
     alone = λ e. let z : _≡_ {A = ℕ} 0 1 = cc in absurd (omega arith);
     both = λ f₁ l₁ e. let a : f ≡ f₁ = cc in let b : l ≡ l₁ = cc in rw (← a, ← b) (refl, w);
   }
 
--- once it is joined, whatever follows is read with the list of all at hand
+-- once it is appended, whatever follows is read with the list of all at hand
 module _ {src toks : List ℕ} {room : ℕ} {q : Part Action Rule} {out : Shape} {vs ws : List Value} {n : NodeNumber} {s : State} {tr tr′ : List ℕ} {m : ℕ} {a : Parsed} {t : List ℕ} where
-  pub joined-then : (b : Gathered) {r : NodeNumber} → Joined src toks b n s tr r tr′ → Comes src toks room q out vs (growing (r .0) m ∷ ws) s tr′ a t → Comes src toks room (joining b q) out vs (growing (n .0) m ∷ hand b ++ ws) s tr a t
-  joined-then gathered.Nothing j c = let e = j .alone refl in rw (e .0, e .1) at c
-  joined-then (gathered.List f l) j c = let e = j .both f l refl in changed-then ws (e .1 m) (rw (e .0) at c)
+  pub appended-then : (b : Gathered) {r : NodeNumber} → Appended src toks b n s tr r tr′ → Comes src toks room q out vs (growing (r .0) m ∷ ws) s tr′ a t → Comes src toks room (joining b q) out vs (growing (n .0) m ∷ hand b ++ ws) s tr a t
+  appended-then gathered.Nothing j c = let e = j .alone refl in rw (e .0, e .1) at c
+  appended-then (gathered.List f l) j c = let e = j .both f l refl in changed-then ws (e .1 m) (rw (e .0) at c)
 
 -- The loop: before the statement of the rule x at st stands b, and whatever the rest comes to from there, the whole comes to from u. `item` is what a
 -- statement is, with what follows it, and `rest` what follows the last.
@@ -80,7 +80,7 @@ module _ {src toks : List ℕ} {room more : ℕ} {x : Rule} {out : Shape} {whole
   pub gathering-read : Parts src toks room (call x) [] mid st tr inner tr₁
   gathering-read = called (i .ready .here) (i .begun .seen) c
 
-  -- the statement was read: there is room for the nodes, and it can be joined to what stands before it
+  -- the statement was read: there is room for the nodes, and it can be put behind what is gathered
   module _ {n : NodeNumber} {after : State} (p : Pays x) (outside : mem Eof (first x) ≡ false) (e : inner ≡ Node n after) where
     pub gathering-came : Came src toks (rank x + 1) mid st n after
     gathering-came = came-rule _ _ (i .ready .tokens) p (before-eof (first x) outside (i .ready .tokens) (i .ready .here) (i .begun .seen)) c e

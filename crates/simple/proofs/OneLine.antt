@@ -28,10 +28,10 @@ use Rattle.joint.proofs.Loops.{ready-of}
 use Rattle.simple.specs.declared.Gathered.{Gathered}
 use Rattle.simple.specs.declared.Gathered.the-variants as gathered
 use Rattle.simple.specs.Parts.{Newest, lineEnd}
-use Rattle.simple.specs.Lists.{Held, Joined}
+use Rattle.simple.specs.Lists.{Held, Appended}
 use Rattle.simple.proofs.Low.{low-simples}
 use Rattle.joint.proofs.Taken.{Taken}
-use Rattle.simple.proofs.Gathering.{Gathering, gathering-read, gathering-came, gathering-room, gathering-held, joined-then, held-list}
+use Rattle.simple.proofs.Gathering.{Gathering, gathering-read, gathering-came, gathering-room, gathering-held, appended-then, held-list}
 
 -- all after the first Simple
 abbrev simplesOn : Part Action Rule
@@ -62,10 +62,10 @@ module _ {src toks : List ℕ} {room : ℕ} {u : State} {tr₀ : List ℕ} {b : 
     unfolding first
     simples-held = gathering-held i c pays-simple refl e
 
-    module _ {f : NodeNumber} {tr₂ : List ℕ} (j : Joined src toks b n after tr₁ f tr₂) where
+    module _ {f : NodeNumber} {tr₂ : List ℕ} (j : Appended src toks b n after tr₁ f tr₂) where
       -- what all comes to, by what is read behind the Simple
       behind-is : {vs : List Value} {a : Parsed} {t : List ℕ} → Comes src toks room simplesOn a-growing vs (growing (f .0) (n .0) ∷ vs) after tr₂ a t → Comes src toks room rules.simples a-growing vs vs u tr₀ a t
-      behind-is {vs} x = i .same vs (part-then (gathering-read i c) e (one-then (joined-then b j x)))
+      behind-is {vs} x = i .same vs (part-then (gathering-read i c) e (one-then (appended-then b j x)))
 
       -- no `;` stands behind it; or one, and no Simple
       module _ (w : Newest inner) where

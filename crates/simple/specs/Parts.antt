@@ -1,4 +1,4 @@
--- Parts of the rules that a function has for itself. Only contracts cite these: each is a part of a rule's body (specs/Tables.antt of pyhyeon).
+-- The end of simples, and what an answer tells of its node. Only contracts cite these.
 -- Assumes nothing.
 use Prim.Native.Nat.{_+_}
 use mathlib.Core.Path.{_≡_}
@@ -16,6 +16,6 @@ use Rattle.leaves.specs.declared.Parsed.the-variants.{Node}
 pub record Newest (r : Parsed) : Type 0 where
   pub last : (n : NodeNumber) (s : State) → r ≡ Node n s → n .0 + 1 ≡ s .nodes
 
--- the end of simples
+-- "then Newline or end": how simples end (01, Grammar; specs/Rules.antt of pyhyeon, `simples`)
 abbrev pub lineEnd : Part Action Rule
 lineEnd = tk Newline ∕ see (Eof ∷ [])

@@ -1,5 +1,5 @@
 -- What a t is to its statement: the part of Simple that is left where it is read, and the values at hand there.
--- Only contracts cite this: each part is one of Simple (specs/Rules.antt of pyhyeon, "return t; t = t; t").
+-- Only contracts of private functions cite this: each part is one of Simple, "return t; t = t; t" (specs/Tables.antt of pyhyeon, `joined Simple`).
 -- Assumes nothing.
 use Prim.Native.Nat.{ℕ, _<_}
 use mathlib.Core.Path.{_≡_}
@@ -27,9 +27,9 @@ does (role.Value n) = assign
 
 -- what is left behind the t: `=` and a value may follow the first
 abbrev pub behind : Role → Part Action Rule
-behind (role.Return k) = act return
-behind role.First = tk Equal ⨾ tJoined ⨾ act assign ∕ act expr
-behind (role.Value n) = act assign
+behind (role.Return k) = act (does (role.Return k))
+behind role.First = tk Equal ⨾ tJoined ⨾ act assign ∕ act (does role.First)
+behind (role.Value n) = act (does (role.Value n))
 
 abbrev pub stated : Role → Part Action Rule
 stated r = tJoined ⨾ behind r

@@ -13,14 +13,14 @@ ghost use Rattle.lookahead.specs.Tokens.{eofAt, textBefore, Tokens};
 ghost use Rattle.leaves.specs.Contract.{a-node, a-growing, Rules, Parts, Ready, Begun, Spot, Writes};
 ghost use Rattle.simple.specs.Parts.{Newest, lineEnd};
 ghost use Rattle.simple.specs.Roles.{stated, hand, does, targets, Placed};
-ghost use Rattle.simple.specs.Lists.{Held, Joined};
+ghost use Rattle.simple.specs.Lists.{Held, Appended};
 use leaves::Added;
 use leaves::Parsed;
 use leaves::State;
 use token::NodeNumber;
 use token::TokenNumber;
 
-// What a t is to its statement: what the Return of the token `keyword` gives; its first t, which may be a target; or the value of the target `first`.
+// What a t is to its statement: what the Return of this keyword gives; its first t, which may be a target; or the value of this target.
 enum Role {
     Return(TokenNumber),
     First,
@@ -49,21 +49,19 @@ pub fn rule_simple(src: &[u8], toks: &[u32], tree: &mut [u32], left: u32, s: Sta
         used: s.used,
     };
     let on = leaves::past(up);
-    let symbol = lookahead::symbol_at(src, toks, at);
-    match symbol {
-        token::BREAK => word(toks, tree, ast::BREAK, on),
-        token::CONTINUE => word(toks, tree, ast::CONTINUE, on),
-        token::PASS => word(toks, tree, ast::PASS, on),
-        _ => {
-            let mut role = Role::First;
-            let mut st = up;
-            if symbol == token::RETURN {
-                role = Role::Return(at);
-                st = on;
-            }
-            statement(src, toks, tree, left, role, st)
+    let mut role = Role::First;
+    let mut st = up;
+    match lookahead::symbol_at(src, toks, at) {
+        token::BREAK => return word(toks, tree, ast::BREAK, on),
+        token::CONTINUE => return word(toks, tree, ast::CONTINUE, on),
+        token::PASS => return word(toks, tree, ast::PASS, on),
+        token::RETURN => {
+            role = Role::Return(at);
+            st = on;
         }
+        _ => {}
     }
+    statement(src, toks, tree, left, role, st)
 }
 
 // The Break, Continue or Pass of the word that was taken.
@@ -129,7 +127,7 @@ fn put(toks: &[u32], tree: &mut [u32], role: Role, n: NodeNumber, s: State) -> A
     match role {
         Role::Return(keyword) => stmt_leaves::put_return(toks, tree, keyword, n, s),
         Role::First => stmt_leaves::put_expr(toks, tree, n, s),
-        Role::Value(first) => stmt_leaves::put_assign(toks, tree, first, n, s),
+        Role::Value(target) => stmt_leaves::put_assign(toks, tree, target, n, s),
     }
 }
 
@@ -146,7 +144,7 @@ pub fn simples(src: &[u8], toks: &[u32], tree: &mut [u32], left: u32, s: State) 
             let inner = rule_simple(src, toks, tree, left, st);
             match inner {
                 Parsed::Node(n, done) => {
-                    let first = joined(tree, gathered, n, done);
+                    let first = append(tree, gathered, n, done);
                     let end = done.at;
                     let symbol = lookahead::symbol_at(src, toks, end);
                     if lookahead::is_symbol(symbol, token::SEMICOLON) {
@@ -171,10 +169,10 @@ pub fn simples(src: &[u8], toks: &[u32], tree: &mut [u32], left: u32, s: State) 
 }
 
 // The list that begins at the node n, behind what is gathered before it: the first node of both.
-pub fn joined(tree: &mut [u32], gathered: Gathered, n: NodeNumber, s: State) -> NodeNumber
+pub fn append(tree: &mut [u32], gathered: Gathered, n: NodeNumber, s: State) -> NodeNumber
     requires { ⌜ 8 * s .nodes + 8 ≤ length (now tree) ⌝ }
     requires { ⌜ Held gathered s ⌝ }
-    ensures { λ r. ⌜ ((src toks : List ℕ) → Joined src toks gathered n s (now (tree .entry)) r (now (tree .exit))) ⌝ }
+    ensures { λ r. ⌜ ((src toks : List ℕ) → Appended src toks gathered n s (now (tree .entry)) r (now (tree .exit))) ⌝ }
 {
     match gathered {
         Gathered::Nothing => n,

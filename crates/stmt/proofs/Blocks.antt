@@ -35,8 +35,8 @@ use Rattle.joint.proofs.Passing.{moved, newlines-pass, run-text}
 use Rattle.simple.specs.Parts.{Newest}
 use Rattle.simple.specs.declared.Gathered.{Gathered}
 use Rattle.simple.specs.declared.Gathered.the-variants as gathered
-use Rattle.simple.specs.Lists.{Held, Joined}
-use Rattle.simple.proofs.Gathering.{Gathering, gathering-read, gathering-came, gathering-room, gathering-held, joined-then, held-list, held-later}
+use Rattle.simple.specs.Lists.{Held, Appended}
+use Rattle.simple.proofs.Gathering.{Gathering, gathering-read, gathering-came, gathering-room, gathering-held, appended-then, held-list, held-later}
 use Rattle.stmt.specs.Parts.{inner}
 
 -- a further Line
@@ -116,10 +116,10 @@ module _ {src toks : List ℕ} {room : ℕ} {u : State} {tr₀ : List ℕ} {b : 
       used : after .used ≡ textBefore src toks end
       used = let x = run-text (code.Newline ∷ []) refl refl (i .ready .tokens) g in lines-came .used ∙ sym x
 
-      module _ {f : NodeNumber} {tr₂ : List ℕ} (j : Joined src toks b n (moved after end) tr₁ f tr₂) where
+      module _ {f : NodeNumber} {tr₂ : List ℕ} (j : Appended src toks b n (moved after end) tr₁ f tr₂) where
         -- what all comes to, by what is read behind them
         behind-is : {vs : List Value} {a : Parsed} {t : List ℕ} → Comes src toks room (many further ⨾ act list-done) a-list vs (growing (f .0) (after .nodes - 1) ∷ vs) (moved after end) tr₂ a t → Comes src toks room linesOn a-list vs vs u tr₀ a t
-        behind-is {vs} x = i .same vs (part-then (gathering-read i c) e (newlines-pass g (joined-then b j x)))
+        behind-is {vs} x = i .same vs (part-then (gathering-read i c) e (newlines-pass g (appended-then b j x)))
 
         -- no Line stands there; or one
         pub lines-end : mem (symbolAt src toks end) firstLine ≡ false → (vs : List Value) → Comes src toks room linesOn a-list vs vs u tr₀ (Node f (moved after end)) tr₂

@@ -183,7 +183,7 @@ fn lines(src: &[u8], toks: &[u32], tree: &mut [u32], left: u32, s: State) -> Par
                         opened: after.opened,
                         used: after.used,
                     };
-                    let first = simple::joined(tree, gathered, n, on);
+                    let first = simple::append(tree, gathered, n, on);
                     if lookahead::begins_line(lookahead::symbol_at(src, toks, line)) {
                         gathered = Gathered::List(first, NodeNumber(k));
                         st = on;

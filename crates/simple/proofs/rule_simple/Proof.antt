@@ -20,20 +20,18 @@ use Rattle.simple.proofs.rule_simple.Statement.{statement}
 use Rattle.simple.proofs.rule_simple.Tie as tie
 
 -- where the arms meet: the first t's role, and the state there
-opening : (c : tie.Joined1) → let at-start = c .before .before .before .before .before .before .before .before .before in Opening (at-start .args .src .now) (at-start .args .toks .now) (at-start .args .s) (at-start .args .tree .now) (c .if1 .role) (c .if1 .st)
+opening : (c : tie.At-match-came) → let at-start = c .before .before .before .before .before .before .before .before in Opening (at-start .args .src .now) (at-start .args .toks .now) (at-start .args .s) (at-start .args .tree .now) (c .match .role) (c .match .st)
 unfolding first
 opening c =
-    let at-match = c .before in
-    let at-symbol-at = at-match .before in
+    let at-symbol-at = c .before in
     let at-past = at-symbol-at .before in
     let at-start = at-past .before .before .before .before .before .before in
     let r = at-start .pre .0 in
     let x = at-symbol-at .symbol-at .ensures in
-    let q = at-match .match .rest in
     ⊎-elim
-    (λ w. rw (w .1, w .2, at-past .past .ensures) (opening-return r (coded (code.Return ∷ []) 8 x (w .0 .taken) refl)))
-    (λ w. rw (w .1, w .2) (opening-other r x (w .0 .left) (q .0 .0 .1) (q .0 .1) (q .1) (at-start .pre .1 .seen)))
-    (c .if1 .came)
+    (λ w. rw (w .1, w .2, at-past .past .ensures) (opening-return r (coded (code.Return ∷ []) 8 x (w .0 .keys4) refl)))
+    (λ w. let q = w .0 .rest in rw (w .1, w .2) (opening-other r x (q .1) (q .0 .0 .0 .1) (q .0 .0 .1) (q .0 .1) (at-start .pre .1 .seen)))
+    (c .match .came)
 
 -- where a word stands that is a statement of its own
 alone : (c : tie.After-symbol-at) (k : ℕ) → mem code.Eof (k ∷ []) ≡ false → mem code.String (k ∷ []) ≡ false → mem k (k ∷ []) ≡ true → c .symbol-at .result ≡ k → let at-start = c .before .before .before .before .before .before .before in Taken (at-start .args .src .now) (at-start .args .toks .now) (k ∷ []) (at-start .args .s)
@@ -149,14 +147,14 @@ rule-simple-spec =
     past-requires
     symbol-at-requires
     word-requires
-    word-requires-2
-    word-requires-3
-    statement-requires
     same-length
     returns
+    word-requires-2
     same-length-2
     returns-2
+    word-requires-3
     same-length-3
     returns-3
+    statement-requires
     same-length-4
     returns-4)

@@ -58,8 +58,8 @@ rule-simple-requires c κs =
 enum-known-inner : tie.Need-enum-known-inner Inv-loop μ-loop
 enum-known-inner c = search needs
 
-joined-requires : tie.Need-joined-requires Inv-loop μ-loop
-joined-requires c κs =
+append-requires : tie.Need-append-requires Inv-loop μ-loop
+append-requires c κs =
     let at-inner = c .before .before in
     let at-rule-simple = at-inner .before .before .before .before in
     let at-loop = at-rule-simple .before .before in
@@ -101,13 +101,13 @@ loop-again : tie.Need-loop-again Inv-loop μ-loop
 loop-again c =
     let at-past = c .before .before .before .before in
     let at-if2 = at-past .before in
-    let at-joined = at-if2 .before .before .before .before .before .before in
-    let at-inner = at-joined .before .before .before in
+    let at-append = at-if2 .before .before .before .before .before .before in
+    let at-inner = at-append .before .before .before in
     let at-rule-simple = at-inner .before .before .before .before in
     let at-loop = at-rule-simple .before .before in
-    let j = at-joined .joined .ensures _ _ in
+    let j = at-append .append .ensures _ _ in
     let g = learnt firstSimple (c .if3 .taken) (c .before .begins-simple2 .ensures) (rw (at-past .past .ensures) at (c .before .before .symbol-at3 .ensures)) in
-    rw (at-past .past .ensures) (simples-goes (at-loop .loop .inv) (at-rule-simple .rule-simple .ensures .0) (at-inner .inner .given .1) j (at-rule-simple .rule-simple .kept .1 .1 .0) (at-joined .joined .kept .0) (semicolon at-if2) g)
+    rw (at-past .past .ensures) (simples-goes (at-loop .loop .inv) (at-rule-simple .rule-simple .ensures .0) (at-inner .inner .given .1) j (at-rule-simple .rule-simple .kept .1 .1 .0) (at-append .append .kept .0) (semicolon at-if2) g)
 
 line-end-requires : tie.Need-line-end-requires Inv-loop μ-loop
 line-end-requires c κs =
@@ -117,22 +117,22 @@ line-end-requires c κs =
 
 same-length : tie.Need-same-length Inv-loop μ-loop
 same-length c =
-    let at-joined = c .before .before .before .before .before .before .before .before .before .before .before .before in
-    let at-rule-simple = at-joined .before .before .before .before .before .before .before in
+    let at-append = c .before .before .before .before .before .before .before .before .before .before .before .before in
+    let at-rule-simple = at-append .before .before .before .before .before .before .before in
     let at-loop = at-rule-simple .before .before in
-    omega (arith, at-joined .joined .kept .0, at-rule-simple .rule-simple .kept .1 .1 .0, at-loop .loop .inv .long)
+    omega (arith, at-append .append .kept .0, at-rule-simple .rule-simple .kept .1 .1 .0, at-loop .loop .inv .long)
 
 returns : tie.Need-returns Inv-loop μ-loop
 returns c =
     let at-if3 = c .before in
     let at-past = at-if3 .before .before .before .before in
     let at-if2 = at-past .before in
-    let at-joined = at-if2 .before .before .before .before .before .before in
-    let at-inner = at-joined .before .before .before in
+    let at-append = at-if2 .before .before .before .before .before .before in
+    let at-inner = at-append .before .before .before in
     let at-rule-simple = at-inner .before .before .before .before in
     let at-loop = at-rule-simple .before .before in
     let r = at-rule-simple .rule-simple .ensures in
-    let j = at-joined .joined .ensures _ _ in
+    let j = at-append .append .ensures _ _ in
     let g = learnt firstSimple (at-if3 .if3 .left) (at-if3 .before .begins-simple2 .ensures) (rw (at-past .past .ensures) at (at-if3 .before .before .symbol-at3 .ensures)) in
     record { comes = λ vs. simples-shut (at-loop .loop .inv) (r .0) (at-inner .inner .given .1) j (r .1) (semicolon at-if2) g ((rw (at-past .past .ensures) at (c .line-end .ensures)) _ _) vs }
 
@@ -145,20 +145,20 @@ line-end-requires-2 c κs =
 
 same-length-2 : tie.Need-same-length-2 Inv-loop μ-loop
 same-length-2 c =
-    let at-joined = c .before .before .before .before .before .before .before in
-    let at-rule-simple = at-joined .before .before .before .before .before .before .before in
+    let at-append = c .before .before .before .before .before .before .before in
+    let at-rule-simple = at-append .before .before .before .before .before .before .before in
     let at-loop = at-rule-simple .before .before in
-    omega (arith, at-joined .joined .kept .0, at-rule-simple .rule-simple .kept .1 .1 .0, at-loop .loop .inv .long)
+    omega (arith, at-append .append .kept .0, at-rule-simple .rule-simple .kept .1 .1 .0, at-loop .loop .inv .long)
 
 returns-2 : tie.Need-returns-2 Inv-loop μ-loop
 returns-2 c =
     let at-if2 = c .before in
-    let at-joined = at-if2 .before .before .before .before .before .before in
-    let at-inner = at-joined .before .before .before in
+    let at-append = at-if2 .before .before .before .before .before .before in
+    let at-inner = at-append .before .before .before in
     let at-rule-simple = at-inner .before .before .before .before in
     let at-loop = at-rule-simple .before .before in
     let r = at-rule-simple .rule-simple .ensures in
-    let j = at-joined .joined .ensures _ _ in
+    let j = at-append .append .ensures _ _ in
     let h = learnt (code.Semicolon ∷ []) (at-if2 .if2 .left) (at-if2 .before .is-symbol .ensures) (at-if2 .before .before .symbol-at2 .ensures) in
     record { comes = λ vs. simples-end (at-loop .loop .inv) (r .0) (at-inner .inner .given .1) j (r .1) h (c .line-end2 .ensures _ _) vs }
 
@@ -197,7 +197,7 @@ simples-spec =
     loop-holds
     rule-simple-requires
     enum-known-inner
-    joined-requires
+    append-requires
     symbol-at-requires-2
     is-symbol-requires
     past-requires

@@ -18,11 +18,11 @@ use Rattle.lookahead.proofs.symbol_at.Reads as symbol-at-reads
 use Rattle.lookahead.proofs.begins_line.Reads as begins-line-reads
 use Rattle.stmt.proofs.rule_line.Reads as rule-line
 use Rattle.lookahead.proofs.skip_newlines.Reads as skip-newlines-reads
-use Rattle.simple.proofs.joined.Reads as joined-reads
+use Rattle.simple.proofs.append.Reads as append-reads
 use Rattle.stmt.proofs.+again+block+branch+class_body+cond+each+elif+elifs+further+given+guarded+indented+inside+lines+member+method+named+other+range+rule_block+rule_class+rule_line+suite.Proof.Start.{lines-at, rule-line-below}
 
 abbrev calls : ℕ → lts.Claims
-calls t = (symbol-at-reads.Asked, symbol-at-reads.Learnt, begins-line-reads.Asked, begins-line-reads.Learnt, rule-line-below t, rule-line.Post, skip-newlines-reads.Asked, skip-newlines-reads.Learnt, joined-reads.Asked, joined-reads.Learnt)
+calls t = (symbol-at-reads.Asked, symbol-at-reads.Learnt, begins-line-reads.Asked, begins-line-reads.Learnt, rule-line-below t, rule-line.Post, skip-newlines-reads.Asked, skip-newlines-reads.Learnt, append-reads.Asked, append-reads.Learnt)
 
 abbrev Inv-loop : lts.InvT-loop
 Inv-loop src toks tree₀ left gathered₀ st₀ tree gathered st = Reading src toks left st₀ tree₀ gathered st tree
@@ -69,8 +69,8 @@ module _ (t : ℕ) where
       let at-loop = at-inner .before .before .before .before .before .before in
       (at-loop .loop .inv .ready .tokens, came at-inner .here)
 
-  joined-requires : lts.Need-joined-requires (calls t) (lines-at t) reads.Post Inv-loop μ-loop
-  joined-requires c κs =
+  append-requires : lts.Need-append-requires (calls t) (lines-at t) reads.Post Inv-loop μ-loop
+  append-requires c κs =
       let at-skip-newlines = c .before in
       let at-inner = at-skip-newlines .before .before .before .before in
       let at-rule-line = at-inner .before .before .before .before in
@@ -98,34 +98,34 @@ module _ (t : ℕ) where
 
   loop-again : lts.Need-loop-again (calls t) (lines-at t) reads.Post Inv-loop μ-loop
   loop-again c =
-      let at-joined = c .before .before .before .before .before in
-      let at-skip-newlines = at-joined .before .before in
+      let at-append = c .before .before .before .before .before in
+      let at-skip-newlines = at-append .before .before in
       let at-inner = at-skip-newlines .before .before .before .before in
       let at-rule-line = at-inner .before .before .before .before in
       let at-loop = at-rule-line .before .before in
       let i = at-loop .loop .inv in
       let g = at-skip-newlines .skip-newlines .ensures in
-      let j = at-joined .joined .ensures _ _ in
+      let j = at-append .append .ensures _ _ in
       let b = learnt firstLine (c .if2 .taken) (c .before .begins-line2 .ensures) (c .before .before .symbol-at2 .ensures) in
-      lines-goes i (at-rule-line .rule-line .ensures) (at-inner .inner .given .1) g j (at-rule-line .rule-line .kept .1 .1 .0) (at-joined .joined .kept .0) b
+      lines-goes i (at-rule-line .rule-line .ensures) (at-inner .inner .given .1) g j (at-rule-line .rule-line .kept .1 .1 .0) (at-append .append .kept .0) b
 
   same-length : lts.Need-same-length (calls t) (lines-at t) reads.Post Inv-loop μ-loop
   same-length c =
-      let at-joined = c .before .before .before .before .before in
-      let at-rule-line = at-joined .before .before .before .before .before .before .before .before .before .before in
+      let at-append = c .before .before .before .before .before in
+      let at-rule-line = at-append .before .before .before .before .before .before .before .before .before .before in
       let at-loop = at-rule-line .before .before in
-      omega (arith, at-joined .joined .kept .0, at-rule-line .rule-line .kept .1 .1 .0, at-loop .loop .inv .long)
+      omega (arith, at-append .append .kept .0, at-rule-line .rule-line .kept .1 .1 .0, at-loop .loop .inv .long)
 
   returns : lts.Need-returns (calls t) (lines-at t) reads.Post Inv-loop μ-loop
   returns c =
-      let at-joined = c .before .before .before .before .before in
-      let at-skip-newlines = at-joined .before .before in
+      let at-append = c .before .before .before .before .before in
+      let at-skip-newlines = at-append .before .before in
       let at-inner = at-skip-newlines .before .before .before .before in
       let at-rule-line = at-inner .before .before .before .before in
       let at-loop = at-rule-line .before .before in
       let i = at-loop .loop .inv in
       let g = at-skip-newlines .skip-newlines .ensures in
-      let j = at-joined .joined .ensures _ _ in
+      let j = at-append .append .ensures _ _ in
       let b = learnt firstLine (c .if2 .left) (c .before .begins-line2 .ensures) (c .before .before .symbol-at2 .ensures) in
       record { comes = λ vs. lines-end i (at-rule-line .rule-line .ensures) (at-inner .inner .given .1) g j b vs }
 
@@ -154,4 +154,4 @@ module _ (t : ℕ) where
       record { comes = λ vs. part-stop {mid = a-growing} _ (no-call (r .here) (r .used) b) refl }
 
   pub meets : {M : Type 1} → lts.Closed (calls t) (lines-at t) reads.Post M
-  meets = lts.spec (calls t) (lines-at t) reads.Post Inv-loop μ-loop symbol-at-requires begins-line-requires loop-holds rule-line-requires enum-known-inner sub-k skip-newlines-requires joined-requires symbol-at-requires-2 begins-line-requires-2 loop-less loop-again same-length returns enum-known-inner-2 same-length-2 returns-2 returns-3
+  meets = lts.spec (calls t) (lines-at t) reads.Post Inv-loop μ-loop symbol-at-requires begins-line-requires loop-holds rule-line-requires enum-known-inner sub-k skip-newlines-requires append-requires symbol-at-requires-2 begins-line-requires-2 loop-less loop-again same-length returns enum-known-inner-2 same-length-2 returns-2 returns-3
