@@ -1,4 +1,4 @@
--- Parts of the rules that a function has for itself. Only contracts cite these: each is a part of a rule's body (specs/Tables.antt of pyhyeon).
+-- Parts of the rules that a function has for itself. Only contracts of private functions cite these: each is a part of a rule's body (specs/Tables.antt of pyhyeon).
 -- Assumes nothing.
 use Prim.Native.Nat.{ℕ}
 use mathlib.Core.Bool.{Bool, true, false}

@@ -37,7 +37,7 @@ use Rattle.simple.specs.declared.Gathered.{Gathered}
 use Rattle.simple.specs.declared.Gathered.the-variants as gathered
 use Rattle.simple.specs.Lists.{Held, Appended}
 use Rattle.simple.proofs.Gathering.{Gathering, gathering-read, gathering-came, gathering-room, gathering-held, appended-then, held-list, held-later}
-use Rattle.stmt.specs.Parts.{inner}
+use Rattle.stmt.specs.Parts.{insideOn}
 
 -- a further Line
 abbrev pub further : Part Action Rule
@@ -47,9 +47,9 @@ pub low-lines : T (low pyhyeon 100 100 (many further))
 unfolding low takes least rank
 low-lines = tt
 
-pub modest-inner : Modest inner
+pub modest-inside : Modest insideOn
 unfolding clean low takes afford credit first least rank writes needs gives
-modest-inner = record { tidy = tt; lower = tt; pays = tt }
+modest-inside = record { tidy = tt; lower = tt; pays = tt }
 
 pub modest-lines : Modest linesOn
 unfolding clean low takes afford credit first least rank writes needs gives

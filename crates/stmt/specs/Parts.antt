@@ -1,4 +1,5 @@
--- Parts of the rules that a function has for itself. Only contracts cite these: each is a part of a rule's body (specs/Tables.antt of pyhyeon).
+-- Where Program begins; and parts of the rules that a function has for itself, each a part of a rule's body (specs/Rules.antt and Tables.antt of
+-- pyhyeon). Only contracts cite these.
 -- Assumes nothing.
 use Prim.Native.Nat.{ℕ}
 use mathlib.Core.Bool.{Bool, true, false}
@@ -15,14 +16,14 @@ use Rattle.leaves.specs.declared.State.{State}
 abbrev pub start : State
 start = record { at = record { 0 = 0 }; nodes = 0; opened = 0; used = 0 }
 
--- what stands between Indent and Dedent; and with these two
-abbrev pub inner : Part Action Rule
-inner = newlines ⨾ linesOn ∕ act list-none
+-- "Indent, Lines as in Program, Dedent" (01, Grammar): what stands between the two; and with them
+abbrev pub insideOn : Part Action Rule
+insideOn = newlines ⨾ linesOn ∕ act list-none
 
 abbrev pub indentedOn : Part Action Rule
-indentedOn = tk Indent ⨾ inner ⨾ tk Dedent
+indentedOn = tk Indent ⨾ insideOn ⨾ tk Dedent
 
--- one Elif, as a node
+-- one Elif, as a node: the first parts of `elifs`
 abbrev pub elifOn : Part Action Rule
 elifOn = tk Elif ⨾ act mark ⨾ call E ⨾ call Block ⨾ act elif
 
@@ -39,7 +40,7 @@ abbrev pub others : Bool → Part Action Rule
 others true = many (more (definition kind.Method))
 others false = many (elifs ⨾ act list-join)
 
--- a Class's Dedent; from its Indent on; after its name
+-- "Indent, one or more Methods with no Newline between, Dedent" (01, Grammar): a Class's Dedent; from its Indent on; after its name
 abbrev pub classEnd : Part Action Rule
 classEnd = tk Dedent ⨾ act class
 
@@ -56,7 +57,7 @@ givenOn k = parameters ⨾ tk RParen ⨾ call Block ⨾ act (define k)
 abbrev pub namedOn : ℕ → Part Action Rule
 namedOn k = called ⨾ tk LParen ⨾ givenOn k
 
--- the Elifs; the Else; both, and the If; an If after its keyword
+-- "Elif and else must follow at once" (01, Grammar): the Elifs; the Else; both, and the If; an If after its keyword
 abbrev pub elifsOn : Part Action Rule
 elifsOn = elifs ⨾ others false ⨾ act list-done ∕ act list-none
 

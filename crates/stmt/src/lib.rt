@@ -2,8 +2,8 @@
 // one function that takes the running count of openings, raises it by one before it reads a token, and hands it on in every answer. The other
 // functions read parts of rules, and open nothing.
 //
-// Contracts are those of the expressions: `Rules` for a rule, `Parts` for a part of one, `Lists` for the rest of a list; `Guards` for an E and the
-// Block behind it. A Line gives a list in the making (`a-growing`), a Block a list.
+// Contracts are those of the leaves: `Rules` for a rule, `Parts` for a part of one, `Lists` for the rest of a list; `Guards` for an E and the Block
+// behind it, `Newest` where a statement's node is the last that was written. A Line gives a list in the making (`a-growing`), a Block a list.
 ghost use mathlib.Core.Path.{_≡_};
 ghost use mathlib.Core.Bool.{true};
 ghost use mathlib.Core.List.{List, [], _∷_};
@@ -20,7 +20,7 @@ ghost use Rattle.lookahead.specs.Tokens.{eofAt, textBefore, symbolAt, Tokens};
 ghost use Rattle.leaves.specs.Contract.{a-node, a-list, a-growing, Rules, Parts, Lists, Ready, Begun};
 ghost use Rattle.simple.specs.Parts.{Newest};
 ghost use Rattle.stmt.specs.Guards.{Guards};
-ghost use Rattle.stmt.specs.Parts.{inner, indentedOn, classOn, leading, member, others, classBody, classEnd, namedOn, givenOn, elifsOn, elseOn, branches, ifOn, elifOn, whileOn, rangeOn, forOn};
+ghost use Rattle.stmt.specs.Parts.{insideOn, indentedOn, classOn, leading, member, others, classBody, classEnd, namedOn, givenOn, elifsOn, elseOn, branches, ifOn, elifOn, whileOn, rangeOn, forOn};
 
 mod whole;
 
@@ -133,7 +133,7 @@ fn indented(src: &[u8], toks: &[u32], tree: &mut [u32], left: u32, s: State) -> 
 // Lines with Newlines before them, or nothing.
 fn inside(src: &[u8], toks: &[u32], tree: &mut [u32], left: u32, s: State) -> Parsed
     requires { ⌜ Ready (now src) (now toks) (now tree) s 1 ⌝ }
-    ensures { λ r. ⌜ Parts (now (src .entry)) (now (toks .entry)) left inner [] a-list s (now (tree .entry)) r (now (tree .exit)) ⌝ }
+    ensures { λ r. ⌜ Parts (now (src .entry)) (now (toks .entry)) left insideOn [] a-list s (now (tree .entry)) r (now (tree .exit)) ⌝ }
 {
     let at = s.at;
     if begins_lines(lookahead::symbol_at(src, toks, at)) {

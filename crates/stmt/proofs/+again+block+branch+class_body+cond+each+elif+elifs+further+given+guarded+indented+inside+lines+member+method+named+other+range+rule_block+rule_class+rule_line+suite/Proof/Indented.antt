@@ -8,7 +8,7 @@ use Rattle.joint.proofs.Chain.{tok-then, tok-not, part-then, part-stop}
 use Rattle.joint.proofs.Loops.{ready-of}
 use Rattle.joint.proofs.Counts.{passed-start}
 use Rattle.joint.proofs.Taken.{Taken, taken-ready}
-use Rattle.stmt.proofs.Blocks.{modest-inner}
+use Rattle.stmt.proofs.Blocks.{modest-inside}
 use borrow.Author.Needs.{needs}
 use native.Mathlib.Omega.{arith}
 use Prim.Native.Nat.{ℕ}
@@ -59,7 +59,7 @@ module _ (t : ℕ) where
       let at-inside = at-body .before .before .before .before in
       let x = rw (at-inside .before .past .ensures) at (at-inside .inside .ensures) in
       let e = indent (at-inside .before .before .before) in
-      let g = passed-start _ _ (e .tokens) modest-inner (e .inside) x (at-body .body .given .1) in
+      let g = passed-start _ _ (e .tokens) modest-inside (e .inside) x (at-body .body .given .1) in
       (e .tokens, (g .here, g .used))
 
   enum-known-body-2 : lts.Need-enum-known-body-2 (calls t) (indented-at t) reads.Post
