@@ -28,7 +28,7 @@ use Rattle.leaves.specs.declared.State.{State}
 use Rattle.leaves.specs.declared.Parsed.{Parsed}
 use Rattle.leaves.specs.declared.Parsed.the-variants.{Node, Refused}
 use Rattle.lookahead.specs.Tokens.{eofAt, textBefore, tokensOf, symbolAt}
-use Rattle.leaves.specs.Contract.{past, raised, kept, state, Shape, a-node, Frame, Told, told-node, told-no, told-deep, Rules, Comes, Parts}
+use Rattle.leaves.specs.Contract.{past, kept, state, Shape, a-node, Frame, Told, told-node, told-no, told-deep, Rules, Comes, Parts}
 use Rattle.leaves.proofs.Frames.{frame-none, frame-then}
 use Rattle.lookahead.proofs.Tokens.{symbols-length, symbols-at, sees-at}
 
@@ -270,6 +270,10 @@ module _ {src toks : List ℕ} {room : ℕ} {out : Shape} {vs : List Value} {a :
   pub list-parts : {i : ℕ} {p q : Part Action Rule} {s : State} {tr : List ℕ} {ws : List Value} → T (low pyhyeon 100 100 p) → s .at .0 + 1 ≤ eofAt toks → mem (symbolAt src toks (s .at .0)) (i ∷ []) ≡ true → begins first (p ⨾ tail i p) ≡ begins first p →
       Comes src toks room (tail i p ⨾ q) out vs ws s tr a t → Comes src toks room ((p ⨾ tail i p ∕ skip) ⨾ q) out vs ws (past s) tr a t
   list-parts {i} {p} {q} {s = s} {tr = tr} {ws = ws} l h e b c = record { told = rw (tail-parts src toks room s tr ws (omega arith) i p q l e h b) at (c .told); frame = c .frame }
+
+-- one opening more
+abbrev pub raised : State → State
+raised s = record { at = s .at; nodes = s .nodes; opened = s .opened + 1; used = s .used }
 
 -- a rule is its body, with one opening more
 module _ {src toks : List ℕ} {room : ℕ} {r : Rule} {out : Shape} {s : State} {tr : List ℕ} where

@@ -24,12 +24,9 @@ use Rattle.leaves.specs.declared.Added.{Added}
 use Rattle.leaves.specs.declared.Parsed.{Parsed}
 use Rattle.leaves.specs.declared.Parsed.the-variants.{Node, Refused}
 
--- one token further; one opening more; one node more
+-- one token further; one node more
 abbrev pub past : State → State
 past s = record { at = record { 0 = s .at .0 + 1 }; nodes = s .nodes; opened = s .opened; used = s .used }
-
-abbrev pub raised : State → State
-raised s = record { at = s .at; nodes = s .nodes; opened = s .opened + 1; used = s .used }
 
 abbrev pub added : State → State
 added s = record { at = s .at; nodes = s .nodes + 1; opened = s .opened; used = s .used }
@@ -41,8 +38,8 @@ kept s tr vs = record { at = s .at .0; nodes = nodesOf tr (s .nodes); values = v
 unfoldable pub state : (src toks : List ℕ) → State → List ℕ → List Value → St (machine src (tokensOf src toks))
 state src toks s tr vs = record { rest = drop (s .at .0) (symbols src (tokensOf src toks)); kept = kept s tr vs }
 
--- The value that an answer stands for, by the node in it and the number of nodes written: a node, a list by its first node or none, or a list in
--- the making, whose last node was written last.
+-- The value that an answer stands for, by the node in it and the number of nodes written: a node; a list, "its first node or none" (01, Tree); or a
+-- list in the making, whose last node was written last.
 abbrev pub Shape : Type 0
 Shape = ℕ → ℕ → Value
 

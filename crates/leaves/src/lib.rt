@@ -37,7 +37,8 @@ pub fn past(s: State) -> State
     }
 }
 
-// The answer of a rule: the node that it read, or the number of a refusal, which stands at the state's token. The state is handed on in both.
+// The answer of a rule or a part: the node that it read, or the first of a list, which may be none; or the number of a refusal, which stands at the
+// state's token. The state is handed on in both.
 pub enum Parsed {
     Node(NodeNumber, State),
     Refused(u32, State),

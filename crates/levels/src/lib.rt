@@ -12,7 +12,7 @@ use leaves::State;
 use token::NodeNumber;
 use token::TokenNumber;
 
-// The levels of operators, each with an operand of the next one: O, A, C, S and P.
+// The levels of operators: O, A, C, S and P. The operand of each is the next of them, and that of P is U.
 pub enum Level {
     Or,
     And,

@@ -6,6 +6,7 @@ ghost use Rattle.lookahead.specs.Tokens.{codeAt, startAt, endAt, eofAt, 
 use token::Place;
 use token::TokenNumber;
 
+// The three words of a token: its code, and where it starts and ends.
 pub fn code_at(toks: &[u32], at: TokenNumber) -> u32
     requires { ⌜ 3 * at .0 + 3 ≤ length (now toks) ⌝ }
     ensures { λ r. ⌜ r ≡ codeAt (now (toks .entry)) (at .0) ⌝ }

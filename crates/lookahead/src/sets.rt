@@ -6,6 +6,7 @@ ghost use Rattle.token.specs.Code.{LParen, LBracket, Dot};
 ghost use Rattle.pyhyeon.specs.Rules.{names, comparisons, sums, products, signSet};
 ghost use Rattle.pyhyeon.specs.Tables.{firstF, firstU, firstE, firstSimple, firstLine};
 
+// Whether the symbol is this one.
 pub fn is_symbol(symbol: u32, c: u32) -> bool
     ensures { λ r. ⌜ r ≡ mem symbol (c ∷ []) ⌝ }
 {
@@ -114,6 +115,7 @@ pub fn is_name(symbol: u32) -> bool
     }
 }
 
+// A sign of U.
 pub fn is_sign(symbol: u32) -> bool
     ensures { λ r. ⌜ r ≡ mem symbol signSet ⌝ }
 {
@@ -125,6 +127,7 @@ pub fn is_sign(symbol: u32) -> bool
     }
 }
 
+// An operator of S.
 pub fn is_add(symbol: u32) -> bool
     ensures { λ r. ⌜ r ≡ mem symbol sums ⌝ }
 {
@@ -135,6 +138,7 @@ pub fn is_add(symbol: u32) -> bool
     }
 }
 
+// An operator of P.
 pub fn is_multiply(symbol: u32) -> bool
     ensures { λ r. ⌜ r ≡ mem symbol products ⌝ }
 {
@@ -147,6 +151,7 @@ pub fn is_multiply(symbol: u32) -> bool
     }
 }
 
+// An operator of C.
 pub fn is_comparison(symbol: u32) -> bool
     ensures { λ r. ⌜ r ≡ mem symbol comparisons ⌝ }
 {

@@ -19,9 +19,9 @@ use Rattle.leaves.specs.declared.Added.{Added}
 use Rattle.leaves.specs.declared.Parsed.{Parsed}
 use Rattle.leaves.specs.declared.Parsed.the-variants.{Node, Refused}
 use Rattle.lookahead.specs.Tokens.{eofAt, textBefore, symbolAt}
-use Rattle.leaves.specs.Contract.{past, raised, a-node, Comes, Parts, Ready, Spot, Writes}
+use Rattle.leaves.specs.Contract.{past, a-node, Comes, Parts, Ready, Spot, Writes}
 use Rattle.lookahead.proofs.Tests.{not-first}
-use Rattle.joint.proofs.Chain.{tok-then, part-then, part-stop, or-first, or-next}
+use Rattle.joint.proofs.Chain.{raised, tok-then, part-then, part-stop, or-first, or-next}
 use Rattle.joint.proofs.Counts.{Came, came-fresh, came-node}
 use Rattle.joint.proofs.Ends.{act-wrote, tok-mark}
 use Rattle.joint.proofs.Loops.{ready-of}

@@ -15,6 +15,7 @@ use leaves::State;
 use token::NodeNumber;
 use token::TokenNumber;
 
+// Program: Newlines (none or more), Lines each with Newlines around, end.
 fn rule_program(src: &[u8], toks: &[u32], tree: &mut [u32], left: u32, s: State) -> Parsed
     requires { ⌜ Ready (now src) (now toks) (now tree) s 0 ⌝ }
     ensures { λ r. ⌜ Rules (now (src .entry)) (now (toks .entry)) left Program a-node s (now (tree .entry)) r (now (tree .exit)) ⌝ }
