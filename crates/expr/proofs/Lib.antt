@@ -1,2 +1,2 @@
 pub mod Low
-pub mod Tested
+pub mod Read

@@ -1,6 +1,6 @@
 -- `expr::shut` meets its contract: the bracket that ends a list.
 -- Assumes nothing.
-use Rattle.expr.proofs.Tested.{met, met-wrote}
+use Rattle.joint.proofs.Taken.{ready-tested, taken-wrote}
 use Rattle.joint.proofs.Chain.{tok-not}
 use Rattle.lookahead.proofs.Tests.{learnt}
 use mathlib.Core.List.{[], _∷_}
@@ -23,7 +23,7 @@ put-enclosed-requires c κs =
     let at-if1 = c .before .before in
     let at-start = at-if1 .before .before .before .before .before .before .before in
     let r = at-start .pre .0 in
-    let m = met (at-start .args .close ∷ []) (at-start .pre .1 .1) (at-start .pre .1 .2) (r .tokens) (r .here) (at-if1 .if1 .taken) (at-if1 .before .is-symbol .ensures) (at-if1 .before .before .symbol-at .ensures) in
+    let m = ready-tested (at-start .args .close ∷ []) (at-start .pre .1 .1) (at-start .pre .1 .2) r (at-if1 .if1 .taken) (at-if1 .before .is-symbol .ensures) (at-if1 .before .before .symbol-at .ensures) in
     rw (c .past .ensures) (omega arith)
 
 same-length : tie.Need-same-length
@@ -35,8 +35,8 @@ returns c =
     let at-if1 = at-put-enclosed .before .before .before in
     let at-start = at-if1 .before .before .before .before .before .before .before in
     let r = at-start .pre .0 in
-    let m = met (at-start .args .close ∷ []) (at-start .pre .1 .1) (at-start .pre .1 .2) (r .tokens) (r .here) (at-if1 .if1 .taken) (at-if1 .before .is-symbol .ensures) (at-if1 .before .before .symbol-at .ensures) in
-    λ room. record { comes = λ vs. met-wrote (r .used) m (rw (at-put-enclosed .before .past .ensures) at (at-put-enclosed .put-enclosed .ensures (at-start .args .src .now))) }
+    let m = ready-tested (at-start .args .close ∷ []) (at-start .pre .1 .1) (at-start .pre .1 .2) r (at-if1 .if1 .taken) (at-if1 .before .is-symbol .ensures) (at-if1 .before .before .symbol-at .ensures) in
+    λ room. record { comes = λ vs. taken-wrote m (rw (at-put-enclosed .before .past .ensures) at (at-put-enclosed .put-enclosed .ensures (at-start .args .src .now))) }
 
 returns-2 : tie.Need-returns-2
 returns-2 c =

@@ -1,6 +1,6 @@
 -- `expr::unit` meets its contract: the empty Tuple.
 -- Assumes nothing.
-use Rattle.expr.proofs.Tested.{met, met-wrote}
+use Rattle.joint.proofs.Taken.{ready-tested, taken-wrote}
 use Rattle.joint.proofs.Chain.{tok-not}
 use Rattle.lookahead.proofs.Tests.{learnt}
 use Rattle.token.specs.Code as code
@@ -25,7 +25,7 @@ put-empty-requires c κs =
     let at-if1 = c .before .before in
     let at-start = at-if1 .before .before .before .before .before .before .before in
     let r = at-start .pre .0 in
-    let m = met (code.RParen ∷ []) refl refl (r .tokens) (r .here) (at-if1 .if1 .taken) (at-if1 .before .is-symbol .ensures) (at-if1 .before .before .symbol-at .ensures) in
+    let m = ready-tested (code.RParen ∷ []) refl refl r (at-if1 .if1 .taken) (at-if1 .before .is-symbol .ensures) (at-if1 .before .before .symbol-at .ensures) in
     rw (c .past .ensures) (omega arith)
 
 same-length : tie.Need-same-length
@@ -37,8 +37,8 @@ returns c =
     let at-if1 = at-put-empty .before .before .before in
     let at-start = at-if1 .before .before .before .before .before .before .before in
     let r = at-start .pre .0 in
-    let m = met (code.RParen ∷ []) refl refl (r .tokens) (r .here) (at-if1 .if1 .taken) (at-if1 .before .is-symbol .ensures) (at-if1 .before .before .symbol-at .ensures) in
-    λ room. record { comes = λ vs. met-wrote (r .used) m (rw (at-put-empty .before .past .ensures) at (at-put-empty .put-empty .ensures (at-start .args .src .now))) }
+    let m = ready-tested (code.RParen ∷ []) refl refl r (at-if1 .if1 .taken) (at-if1 .before .is-symbol .ensures) (at-if1 .before .before .symbol-at .ensures) in
+    λ room. record { comes = λ vs. taken-wrote m (rw (at-put-empty .before .past .ensures) at (at-put-empty .put-empty .ensures (at-start .args .src .now))) }
 
 returns-2 : tie.Need-returns-2
 returns-2 c =

@@ -11,7 +11,7 @@ use Rattle.lookahead.proofs.Tests.{learnt}
 use Rattle.leaves.specs.Contract.{a-node}
 use Rattle.joint.proofs.Chain.{part-stop, not-called}
 use Rattle.joint.proofs.Counts.{Came}
-use Rattle.joint.proofs.Taken.{Taken, taken}
+use Rattle.joint.proofs.Taken.{Taken, taken-tested}
 use Rattle.simple.proofs.Gathering.{gathering-starts}
 use Rattle.simple.proofs.OneLine.{item, Reading, simples-stop, simples-came, simples-room, simples-held, simples-end, simples-shut, simples-goes}
 use borrow.Author.Needs.{needs}
@@ -32,7 +32,7 @@ semicolon : (c : tie.Then2 Inv-loop μ-loop) → let at-inner = c .before .befor
 semicolon c =
     let at-inner = c .before .before .before .before .before .before .before .before .before in
     let g = came at-inner in
-    taken (code.Semicolon ∷ []) refl refl (at-inner .before .before .before .before .before .before .loop .inv .ready .tokens) (g .here) (g .used) (learnt (code.Semicolon ∷ []) (c .if2 .taken) (c .before .is-symbol .ensures) (c .before .before .symbol-at2 .ensures))
+    taken-tested (code.Semicolon ∷ []) refl refl (at-inner .before .before .before .before .before .before .loop .inv .ready .tokens) (g .here) (g .used) (c .if2 .taken) (c .before .is-symbol .ensures) (c .before .before .symbol-at2 .ensures)
 
 symbol-at-requires : tie.Need-symbol-at-requires Inv-loop μ-loop
 symbol-at-requires c κs =

@@ -5,7 +5,7 @@ use mathlib.Core.List.{[], _∷_}
 use Rattle.token.specs.Code as code
 use Rattle.lookahead.proofs.Tests.{learnt}
 use Rattle.joint.proofs.Seen.{tok-end, tok-no}
-use Rattle.joint.proofs.Taken.{taken}
+use Rattle.joint.proofs.Taken.{taken-tested}
 use native.Mathlib.Omega.{arith}
 use borrow.Author.Needs.{needs}
 use Rattle.stmt.proofs.dedent.Statement.{statement}
@@ -31,7 +31,7 @@ returns c =
     let at-if1 = c .before in
     let at-start = at-if1 .before .before .before .before .before .before in
     let w = at-start .pre in
-    let e = taken (code.Dedent ∷ []) refl refl {s = at-start .args .s} (w .0) (w .1 .0) (w .1 .1) (learnt (code.Dedent ∷ []) (at-if1 .if1 .taken) (at-if1 .before .is-symbol .ensures) (at-if1 .before .before .symbol-at .ensures)) in
+    let e = taken-tested (code.Dedent ∷ []) refl refl {s = at-start .args .s} (w .0) (w .1 .0) (w .1 .1) (at-if1 .if1 .taken) (at-if1 .before .is-symbol .ensures) (at-if1 .before .before .symbol-at .ensures) in
     rw (c .past .ensures) (λ room tr. record { comes = λ vs. tok-end (e .here) (e .seen) (e .used) })
 
 returns-2 : tie.Need-returns-2

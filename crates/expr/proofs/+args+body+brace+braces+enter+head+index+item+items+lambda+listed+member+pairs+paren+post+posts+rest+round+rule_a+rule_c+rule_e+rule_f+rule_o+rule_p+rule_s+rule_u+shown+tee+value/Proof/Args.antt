@@ -1,7 +1,7 @@
 -- `expr::args`, a member of the cycle.
 -- Assumes nothing.
 use Rattle.expr.proofs.Low.{modest-list}
-use Rattle.expr.proofs.Tested.{met, met-wrote}
+use Rattle.joint.proofs.Taken.{Taken, taken-tested, taken-wrote}
 use Rattle.joint.proofs.Chain.{tok-not, part-then, part-stop}
 use Rattle.joint.proofs.Bounds.{Went, after-list}
 use Rattle.lookahead.proofs.Tests.{learnt}
@@ -32,6 +32,14 @@ module _ (t : ℕ) where
     behind : Went (start .args .src .now) (start .args .toks .now) (start .args .s) (c .inner .given .0 .1 .0)
     behind = after-list _ _ (start .pre .1 .0 .tokens) modest-list (start .pre .1 .0 .here) (c .before .before .before .before .items .ensures) (c .inner .given .1)
 
+  -- where the parenthesis stands behind it
+  module _ (c : lts.Then1 (calls t) (args-at t) reads.Post) where
+    abbrev read : lts.After-inner (calls t) (args-at t) reads.Post
+    read = c .before .before .before .before .before
+
+    paren : Taken (start read .args .src .now) (start read .args .toks .now) (code.RParen ∷ []) (read .inner .given .0 .1 .0)
+    paren = taken-tested (code.RParen ∷ []) refl refl (start read .pre .1 .0 .tokens) (behind read .here) (behind read .used) (c .if1 .taken) (c .before .is-symbol .ensures) (c .before .before .symbol-at .ensures)
+
   items-requires : lts.Need-items-requires (calls t) (args-at t) reads.Post
   items-requires c κs = search needs
 
@@ -52,10 +60,10 @@ module _ (t : ℕ) where
   put-apply-requires : lts.Need-put-apply-requires (calls t) (args-at t) reads.Post
   put-apply-requires c κs =
       let at-if1 = c .before .before in
-      let at-inner = at-if1 .before .before .before .before .before in
+      let at-inner = read at-if1 in
       let at-start = start at-inner in
       let g = behind at-inner in
-      let m = met (code.RParen ∷ []) refl refl (at-start .pre .1 .0 .tokens) (g .here) (at-if1 .if1 .taken) (at-if1 .before .is-symbol .ensures) (at-if1 .before .before .symbol-at .ensures) in
+      let m = paren at-if1 in
       rw (c .past .ensures) (omega arith)
 
   enum-known-inner-2 : lts.Need-enum-known-inner-2 (calls t) (args-at t) reads.Post
@@ -68,11 +76,10 @@ module _ (t : ℕ) where
   returns c =
       let at-put-apply = c .before .before .before .before in
       let at-if1 = at-put-apply .before .before .before in
-      let at-inner = at-if1 .before .before .before .before .before in
+      let at-inner = read at-if1 in
       let at-start = start at-inner in
-      let g = behind at-inner in
-      let m = met (code.RParen ∷ []) refl refl (at-start .pre .1 .0 .tokens) (g .here) (at-if1 .if1 .taken) (at-if1 .before .is-symbol .ensures) (at-if1 .before .before .symbol-at .ensures) in
-      record { comes = λ vs. part-then (at-inner .before .before .before .before .items .ensures) (at-inner .inner .given .1) (met-wrote (g .used) m (rw (at-put-apply .before .past .ensures) at (at-put-apply .put-apply .ensures (at-start .args .src .now)))) }
+      let m = paren at-if1 in
+      record { comes = λ vs. part-then (at-inner .before .before .before .before .items .ensures) (at-inner .inner .given .1) (taken-wrote m (rw (at-put-apply .before .past .ensures) at (at-put-apply .put-apply .ensures (at-start .args .src .now)))) }
 
   same-length-2 : lts.Need-same-length-2 (calls t) (args-at t) reads.Post
   same-length-2 c = search needs

@@ -1,6 +1,6 @@
 -- `expr::brace`, a member of the cycle.
 -- Assumes nothing.
-use Rattle.expr.proofs.Tested.{met}
+use Rattle.joint.proofs.Taken.{ready-tested}
 use Rattle.joint.proofs.Loops.{ready-of}
 use Rattle.joint.proofs.Chain.{tok-then, or-first, or-next}
 use Rattle.joint.proofs.Ends.{one-then}
@@ -39,7 +39,7 @@ module _ (t : ℕ) where
       let at-if1 = c .before .before in
       let at-start = at-if1 .before .before .before .before .before .before .before in
       let r = at-start .pre .1 .0 in
-      let m = met (code.Colon ∷ []) refl refl (r .tokens) (r .here) (at-if1 .if1 .taken) (at-if1 .before .is-symbol .ensures) (at-if1 .before .before .symbol-at .ensures) in
+      let m = ready-tested (code.Colon ∷ []) refl refl r (at-if1 .if1 .taken) (at-if1 .before .is-symbol .ensures) (at-if1 .before .before .symbol-at .ensures) in
       rw (c .past .ensures) (omega arith, (ready-of (r .tokens) (omega arith), (omega arith, at-start .pre .1 .1 .1)))
 
   listed-requires : lts.Need-listed-requires (calls t) (brace-at t) reads.Post

@@ -1,6 +1,7 @@
 -- `expr::braces`, a member of the cycle.
 -- Assumes nothing.
-use Rattle.expr.proofs.Tested.{met, met-wrote, after-enter}
+use Rattle.expr.proofs.Read.{after-enter}
+use Rattle.joint.proofs.Taken.{ready-tested, taken-wrote}
 use Rattle.joint.proofs.Loops.{ready-of}
 use Rattle.joint.proofs.Chain.{part-then, part-stop, or-first, or-next}
 use Rattle.lookahead.proofs.Tests.{learnt}
@@ -39,7 +40,7 @@ module _ (t : ℕ) where
       let at-if1 = c .before .before in
       let at-start = at-if1 .before .before .before .before .before .before .before in
       let r = at-start .pre .1 .0 in
-      let m = met (code.RBrace ∷ []) refl refl (r .tokens) (r .here) (at-if1 .if1 .taken) (at-if1 .before .is-symbol .ensures) (at-if1 .before .before .symbol-at .ensures) in
+      let m = ready-tested (code.RBrace ∷ []) refl refl r (at-if1 .if1 .taken) (at-if1 .before .is-symbol .ensures) (at-if1 .before .before .symbol-at .ensures) in
       rw (c .past .ensures) (omega arith)
 
   enter-requires : lts.Need-enter-requires (calls t) (braces-at t) reads.Post
@@ -73,8 +74,8 @@ module _ (t : ℕ) where
       let at-if1 = at-put-empty .before .before .before in
       let at-start = at-if1 .before .before .before .before .before .before .before in
       let r = at-start .pre .1 .0 in
-      let m = met (code.RBrace ∷ []) refl refl (r .tokens) (r .here) (at-if1 .if1 .taken) (at-if1 .before .is-symbol .ensures) (at-if1 .before .before .symbol-at .ensures) in
-      record { comes = λ vs. or-first (r .here) (m .seen) (met-wrote (r .used) m (rw (at-put-empty .before .past .ensures) at (at-put-empty .put-empty .ensures (at-start .args .src .now)))) }
+      let m = ready-tested (code.RBrace ∷ []) refl refl r (at-if1 .if1 .taken) (at-if1 .before .is-symbol .ensures) (at-if1 .before .before .symbol-at .ensures) in
+      record { comes = λ vs. or-first (r .here) (m .seen) (taken-wrote m (rw (at-put-empty .before .past .ensures) at (at-put-empty .put-empty .ensures (at-start .args .src .now)))) }
 
   same-length-2 : lts.Need-same-length-2 (calls t) (braces-at t) reads.Post
   same-length-2 c = search needs

@@ -5,7 +5,7 @@ use mathlib.Core.Path.{_≡_}
 use Rattle.lookahead.proofs.Tests.{of-first}
 use Rattle.pyhyeon.specs.Rules.{literals}
 use Rattle.pyhyeon.specs.Symbol.{Tee}
-use Rattle.expr.proofs.Tested.{met-seen, met-wrote}
+use Rattle.joint.proofs.Taken.{taken-ready, taken-wrote}
 use Rattle.joint.proofs.Loops.{ready-of}
 use Rattle.joint.proofs.Ends.{act-literal, tok-mark}
 use Rattle.joint.proofs.Chain.{tok-then, or-first, or-next}
@@ -45,7 +45,7 @@ module _ (t : ℕ) where
   shown-requires : lts.Need-shown-requires (calls t) (head-at t) reads.Post
   shown-requires c κs =
       let r = c .before .before .before .before .before .before .before .before .pre .1 .0 in
-      let m = met-seen (code.LBracket ∷ []) refl refl (r .tokens) (r .here) (rw (sym (c .before .before .before .symbol-at .ensures) ∙ c .before .before .match .keys1)) in
+      let m = taken-ready (code.LBracket ∷ []) refl refl r (rw (sym (c .before .before .before .symbol-at .ensures) ∙ c .before .before .match .keys1)) in
       rw (c .past .ensures) (omega arith, (ready-of (r .tokens) (omega arith), (omega arith, refl, refl)))
 
   past-requires-2 : lts.Need-past-requires-2 (calls t) (head-at t) reads.Post
@@ -54,7 +54,7 @@ module _ (t : ℕ) where
   tee-requires : lts.Need-tee-requires (calls t) (head-at t) reads.Post
   tee-requires c κs =
       let r = c .before .before .before .before .before .before .before .before .pre .1 .0 in
-      let m = met-seen (Tee ∷ []) refl refl (r .tokens) (r .here) (rw (sym (c .before .before .before .symbol-at .ensures) ∙ c .before .before .match .keys2)) in
+      let m = taken-ready (Tee ∷ []) refl refl r (rw (sym (c .before .before .before .symbol-at .ensures) ∙ c .before .before .match .keys2)) in
       rw (c .past2 .ensures) (omega arith, (ready-of (r .tokens) (omega arith), refl))
 
   past-requires-3 : lts.Need-past-requires-3 (calls t) (head-at t) reads.Post
@@ -63,7 +63,7 @@ module _ (t : ℕ) where
   braces-requires : lts.Need-braces-requires (calls t) (head-at t) reads.Post
   braces-requires c κs =
       let r = c .before .before .before .before .before .before .before .before .pre .1 .0 in
-      let m = met-seen (code.LBrace ∷ []) refl refl (r .tokens) (r .here) (rw (sym (c .before .before .before .symbol-at .ensures) ∙ c .before .before .match .keys3)) in
+      let m = taken-ready (code.LBrace ∷ []) refl refl r (rw (sym (c .before .before .before .symbol-at .ensures) ∙ c .before .before .match .keys3)) in
       rw (c .past3 .ensures) (omega arith, (ready-of (r .tokens) (omega arith), omega arith))
 
   past-requires-4 : lts.Need-past-requires-4 (calls t) (head-at t) reads.Post
@@ -72,7 +72,7 @@ module _ (t : ℕ) where
   round-requires : lts.Need-round-requires (calls t) (head-at t) reads.Post
   round-requires c κs =
       let r = c .before .before .before .before .before .before .before .before .pre .1 .0 in
-      let m = met-seen (code.LParen ∷ []) refl refl (r .tokens) (r .here) (rw (sym (c .before .before .before .symbol-at .ensures) ∙ c .before .before .match .keys4)) in
+      let m = taken-ready (code.LParen ∷ []) refl refl r (rw (sym (c .before .before .before .symbol-at .ensures) ∙ c .before .before .match .keys4)) in
       rw (c .past4 .ensures) (omega arith, (ready-of (r .tokens) (omega arith), omega arith))
 
   past-requires-5 : lts.Need-past-requires-5 (calls t) (head-at t) reads.Post
@@ -81,7 +81,7 @@ module _ (t : ℕ) where
   put-named-requires : lts.Need-put-named-requires (calls t) (head-at t) reads.Post
   put-named-requires c κs =
       let r = c .before .before .before .before .before .before .before .before .pre .1 .0 in
-      let m = met-seen (code.Identifier ∷ []) refl refl (r .tokens) (r .here) (rw (sym (c .before .before .before .symbol-at .ensures) ∙ c .before .before .match .keys5)) in
+      let m = taken-ready (code.Identifier ∷ []) refl refl r (rw (sym (c .before .before .before .symbol-at .ensures) ∙ c .before .before .match .keys5)) in
       rw (c .past5 .ensures) (omega arith)
 
   past-requires-6 : lts.Need-past-requires-6 (calls t) (head-at t) reads.Post
@@ -155,8 +155,8 @@ module _ (t : ℕ) where
       let r = at-match .before .before .before .before .before .before .pre .1 .0 in
       let h = r .here in
       let q = sym (at-match .before .symbol-at .ensures) ∙ at-match .match .keys5 in
-      let m = met-seen (code.Identifier ∷ []) refl refl (r .tokens) h (rw q) in
-      record { comes = λ vs. or-next h (rw q) (or-next h (rw q) (or-next h (rw q) (or-next h (rw q) (or-next h (rw q) (met-wrote (r .used) m (rw (at-put-named .before .past5 .ensures) at (at-put-named .put-named .ensures (at-match .before .before .before .before .before .before .args .src .now)))))))) }
+      let m = taken-ready (code.Identifier ∷ []) refl refl r (rw q) in
+      record { comes = λ vs. or-next h (rw q) (or-next h (rw q) (or-next h (rw q) (or-next h (rw q) (or-next h (rw q) (taken-wrote m (rw (at-put-named .before .past5 .ensures) at (at-put-named .put-named .ensures (at-match .before .before .before .before .before .before .args .src .now)))))))) }
 
   same-length-6 : lts.Need-same-length-6 (calls t) (head-at t) reads.Post
   same-length-6 c = search needs

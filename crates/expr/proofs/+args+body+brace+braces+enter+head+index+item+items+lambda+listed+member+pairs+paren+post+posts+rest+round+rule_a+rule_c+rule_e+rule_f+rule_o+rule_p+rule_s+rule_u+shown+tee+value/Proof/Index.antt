@@ -1,6 +1,7 @@
 -- `expr::index`, a member of the cycle.
 -- Assumes nothing.
-use Rattle.expr.proofs.Tested.{met, met-wrote, after-enter}
+use Rattle.expr.proofs.Read.{after-enter}
+use Rattle.joint.proofs.Taken.{Taken, taken-tested, taken-wrote}
 use Rattle.joint.proofs.Loops.{ready-of}
 use Rattle.joint.proofs.Chain.{tok-not, part-then, part-stop}
 use Rattle.joint.proofs.Bounds.{Grown}
@@ -32,6 +33,14 @@ module _ (t : ℕ) where
     behind : Grown (start .args .src .now) (start .args .toks .now) 8 (start .args .s) (c .inner .given .0 .0) (c .inner .given .0 .1 .0)
     behind = after-enter (start .pre .1 .0) (c .before .before .before .before .enter .ensures) (c .inner .given .1)
 
+  -- where the bracket stands behind it
+  module _ (c : lts.Then1 (calls t) (index-at t) reads.Post) where
+    abbrev read : lts.After-inner (calls t) (index-at t) reads.Post
+    read = c .before .before .before .before .before
+
+    bracket : Taken (start read .args .src .now) (start read .args .toks .now) (code.RBracket ∷ []) (read .inner .given .0 .1 .0)
+    bracket = taken-tested (code.RBracket ∷ []) refl refl (start read .pre .1 .0 .tokens) (behind read .here) (behind read .used) (c .if1 .taken) (c .before .is-symbol .ensures) (c .before .before .symbol-at .ensures)
+
   enter-requires : lts.Need-enter-requires (calls t) (index-at t) reads.Post
   enter-requires c κs =
       let r = c .before .before .before .before .pre .1 .0 in
@@ -54,10 +63,10 @@ module _ (t : ℕ) where
   put-index-requires : lts.Need-put-index-requires (calls t) (index-at t) reads.Post
   put-index-requires c κs =
       let at-if1 = c .before .before in
-      let at-inner = at-if1 .before .before .before .before .before in
+      let at-inner = read at-if1 in
       let at-start = start at-inner in
       let g = behind at-inner in
-      let m = met (code.RBracket ∷ []) refl refl (at-start .pre .1 .0 .tokens) (g .here) (at-if1 .if1 .taken) (at-if1 .before .is-symbol .ensures) (at-if1 .before .before .symbol-at .ensures) in
+      let m = bracket at-if1 in
       rw (c .past .ensures) (omega arith)
 
   enum-known-inner-2 : lts.Need-enum-known-inner-2 (calls t) (index-at t) reads.Post
@@ -70,11 +79,10 @@ module _ (t : ℕ) where
   returns c =
       let at-put-index = c .before .before .before .before in
       let at-if1 = at-put-index .before .before .before in
-      let at-inner = at-if1 .before .before .before .before .before in
+      let at-inner = read at-if1 in
       let at-start = start at-inner in
-      let g = behind at-inner in
-      let m = met (code.RBracket ∷ []) refl refl (at-start .pre .1 .0 .tokens) (g .here) (at-if1 .if1 .taken) (at-if1 .before .is-symbol .ensures) (at-if1 .before .before .symbol-at .ensures) in
-      record { comes = λ vs. part-then (at-inner .before .before .before .before .enter .ensures) (at-inner .inner .given .1) (met-wrote (g .used) m (rw (at-put-index .before .past .ensures) at (at-put-index .put-index .ensures (at-start .args .src .now)))) }
+      let m = bracket at-if1 in
+      record { comes = λ vs. part-then (at-inner .before .before .before .before .enter .ensures) (at-inner .inner .given .1) (taken-wrote m (rw (at-put-index .before .past .ensures) at (at-put-index .put-index .ensures (at-start .args .src .now)))) }
 
   same-length-2 : lts.Need-same-length-2 (calls t) (index-at t) reads.Post
   same-length-2 c = search needs

@@ -1,6 +1,7 @@
 -- `expr::item`, a member of the cycle.
 -- Assumes nothing.
-use Rattle.expr.proofs.Tested.{met, after-e}
+use Rattle.expr.proofs.Read.{after-e}
+use Rattle.joint.proofs.Taken.{Taken, taken-tested}
 use Rattle.joint.proofs.Loops.{ready-of}
 use Rattle.joint.proofs.Chain.{tok-then, tok-not, called, part-then, part-stop}
 use Rattle.joint.proofs.Bounds.{Grown}
@@ -33,6 +34,14 @@ module _ (t : ℕ) where
     behind : Grown (start .args .src .now) (start .args .toks .now) 8 (start .args .s) (c .inner .given .0 .0) (c .inner .given .0 .1 .0)
     behind = after-e (start .pre .1 .0) (start .pre .1 .1) (c .before .before .before .before .rule-e .ensures) (c .inner .given .1)
 
+  -- where a colon stands behind it
+  module _ (c : lts.Then1 (calls t) (item-at t) reads.Post) where
+    abbrev read : lts.After-inner (calls t) (item-at t) reads.Post
+    read = c .before .before .before .before .before
+
+    colon : Taken (start read .args .src .now) (start read .args .toks .now) (code.Colon ∷ []) (read .inner .given .0 .1 .0)
+    colon = taken-tested (code.Colon ∷ []) refl refl (start read .pre .1 .0 .tokens) (behind read .here) (behind read .used) (c .if1 .taken) (c .before .is-symbol .ensures) (c .before .before .symbol-at .ensures)
+
   rule-e-requires : lts.Need-rule-e-requires (calls t) (item-at t) reads.Post
   rule-e-requires c κs =
       let at-start = c .before .before .before .before in
@@ -55,11 +64,11 @@ module _ (t : ℕ) where
   value-requires : lts.Need-value-requires (calls t) (item-at t) reads.Post
   value-requires c κs =
       let at-if1 = c .before .before in
-      let at-inner = at-if1 .before .before .before .before .before in
+      let at-inner = read at-if1 in
       let at-rule-e = at-inner .before .before .before .before in
       let r = start at-inner .pre .1 .0 in
       let g = behind at-inner in
-      let m = met (code.Colon ∷ []) refl refl (r .tokens) (g .here) (at-if1 .if1 .taken) (at-if1 .before .is-symbol .ensures) (at-if1 .before .before .symbol-at .ensures) in
+      let m = colon at-if1 in
       rw (c .past .ensures) (omega arith, (ready-of (r .tokens) (omega arith), g .node))
 
   enum-known-inner-2 : lts.Need-enum-known-inner-2 (calls t) (item-at t) reads.Post
@@ -73,12 +82,11 @@ module _ (t : ℕ) where
   returns c =
       let at-value = c .before .before in
       let at-if1 = at-value .before .before .before in
-      let at-inner = at-if1 .before .before .before .before .before in
+      let at-inner = read at-if1 in
       let at-rule-e = at-inner .before .before .before .before in
       let r = start at-inner .pre .1 .0 in
-      let g = behind at-inner in
-      let m = met (code.Colon ∷ []) refl refl (r .tokens) (g .here) (at-if1 .if1 .taken) (at-if1 .before .is-symbol .ensures) (at-if1 .before .before .symbol-at .ensures) in
-      record { comes = λ vs. part-then (called (r .here) (start at-inner .pre .1 .1 .seen) (at-rule-e .rule-e .ensures)) (at-inner .inner .given .1) (tok-then (g .here) (m .seen) (rw (at-value .before .past .ensures) at (at-value .value .ensures .comes vs))) }
+      let m = colon at-if1 in
+      record { comes = λ vs. part-then (called (r .here) (start at-inner .pre .1 .1 .seen) (at-rule-e .rule-e .ensures)) (at-inner .inner .given .1) (tok-then (m .here) (m .seen) (rw (at-value .before .past .ensures) at (at-value .value .ensures .comes vs))) }
 
   same-length-2 : lts.Need-same-length-2 (calls t) (item-at t) reads.Post
   same-length-2 c = search needs

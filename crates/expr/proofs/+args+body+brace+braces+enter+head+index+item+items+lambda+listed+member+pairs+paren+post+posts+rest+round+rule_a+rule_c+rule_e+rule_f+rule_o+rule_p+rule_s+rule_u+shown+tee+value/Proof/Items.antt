@@ -1,6 +1,6 @@
 -- `expr::items`, a member of the cycle.
 -- Assumes nothing.
-use Rattle.expr.proofs.Tested.{after-e}
+use Rattle.expr.proofs.Read.{after-e}
 use Rattle.joint.proofs.Loops.{ready-of, lists-done}
 use Rattle.joint.proofs.Ends.{none-last, one-then}
 use Rattle.joint.proofs.Chain.{called, part-then, part-stop, or-first, or-next}

@@ -1,7 +1,7 @@
 -- `expr::lambda`, a member of the cycle.
 -- Assumes nothing.
 use Rattle.expr.proofs.Low.{modest-parameters}
-use Rattle.expr.proofs.Tested.{met}
+use Rattle.joint.proofs.Taken.{Taken, taken-tested}
 use Rattle.joint.proofs.Loops.{ready-of}
 use Rattle.joint.proofs.Chain.{tok-then, tok-not, part-then}
 use Rattle.joint.proofs.Bounds.{Went, after-list}
@@ -33,6 +33,14 @@ module _ (t : ℕ) where
     behind : Went (start .args .src .now) (start .args .toks .now) (start .args .s) (c .names .result .1)
     behind = after-list _ _ (start .pre .1 .0 .tokens) modest-parameters (start .pre .1 .0 .here) (c .names .ensures 0) refl
 
+  -- where the colon stands behind them
+  module _ (c : lts.Then1 (calls t) (lambda-at t) reads.Post) where
+    abbrev read : lts.After-names (calls t) (lambda-at t) reads.Post
+    read = c .before .before .before .before .before .before .before .before
+
+    colon : Taken (start read .args .src .now) (start read .args .toks .now) (code.Colon ∷ []) (read .names .result .1)
+    colon = taken-tested (code.Colon ∷ []) refl refl (start read .pre .1 .0 .tokens) (behind read .here) (behind read .used) (c .if1 .taken) (c .before .is-symbol .ensures) (c .before .before .symbol-at .ensures)
+
   names-requires : lts.Need-names-requires (calls t) (lambda-at t) reads.Post
   names-requires c κs = search needs
 
@@ -50,10 +58,10 @@ module _ (t : ℕ) where
   body-requires : lts.Need-body-requires (calls t) (lambda-at t) reads.Post
   body-requires c κs =
       let at-if1 = c .before .before in
-      let at-names = at-if1 .before .before .before .before .before .before .before .before in
+      let at-names = read at-if1 in
       let at-start = start at-names in
       let g = behind at-names in
-      let m = met (code.Colon ∷ []) refl refl (at-start .pre .1 .0 .tokens) (g .here) (at-if1 .if1 .taken) (at-if1 .before .is-symbol .ensures) (at-if1 .before .before .symbol-at .ensures) in
+      let m = colon at-if1 in
       rw (c .past .ensures) (omega arith, (ready-of (at-start .pre .1 .0 .tokens) (omega arith), omega arith))
 
   same-length : lts.Need-same-length (calls t) (lambda-at t) reads.Post
@@ -63,11 +71,9 @@ module _ (t : ℕ) where
   returns c =
       let at-body = c .before .before in
       let at-if1 = at-body .before .before .before in
-      let at-names = at-if1 .before .before .before .before .before .before .before .before in
-      let at-start = start at-names in
-      let g = behind at-names in
-      let m = met (code.Colon ∷ []) refl refl (at-start .pre .1 .0 .tokens) (g .here) (at-if1 .if1 .taken) (at-if1 .before .is-symbol .ensures) (at-if1 .before .before .symbol-at .ensures) in
-      record { comes = λ vs. part-then (at-names .names .ensures _) refl (tok-then (g .here) (m .seen) (rw (at-body .before .past .ensures) at (at-body .body .ensures .comes vs))) }
+      let at-names = read at-if1 in
+      let m = colon at-if1 in
+      record { comes = λ vs. part-then (at-names .names .ensures _) refl (tok-then (m .here) (m .seen) (rw (at-body .before .past .ensures) at (at-body .body .ensures .comes vs))) }
 
   same-length-2 : lts.Need-same-length-2 (calls t) (lambda-at t) reads.Post
   same-length-2 c = search needs

@@ -1,6 +1,6 @@
 -- `expr::paren`, a member of the cycle.
 -- Assumes nothing.
-use Rattle.expr.proofs.Tested.{met}
+use Rattle.joint.proofs.Taken.{ready-tested}
 use Rattle.expr.proofs.Low.{low-member}
 use Rattle.joint.proofs.Ends.{act-changed, one-then}
 use Rattle.joint.proofs.Chain.{tok-then, tok-not, or-first, or-next, flat, list-parts}
@@ -10,7 +10,7 @@ use Rattle.grammar.specs.Descent.{null, begins}
 use Rattle.pyhyeon.specs.Tables.{first}
 use mathlib.Core.List.{[], _∷_}
 use mathlib.Core.Bool.{false}
-use mathlib.Core.Path.{refl, sym, _∙_}
+use mathlib.Core.Path.{refl}
 use borrow.Author.Needs.{needs}
 use native.Mathlib.Omega.{arith}
 use Prim.Native.Nat.{ℕ}
@@ -42,7 +42,7 @@ module _ (t : ℕ) where
       let at-if1 = at-past .before in
       let at-start = at-if1 .before .before .before .before .before .before .before in
       let r = at-start .pre .1 .0 in
-      let m = met (code.RParen ∷ []) refl refl (r .tokens) (r .here) (at-if1 .if1 .taken) (at-if1 .before .is-symbol .ensures) (at-if1 .before .before .symbol-at .ensures) in
+      let m = ready-tested (code.RParen ∷ []) refl refl r (at-if1 .if1 .taken) (at-if1 .before .is-symbol .ensures) (at-if1 .before .before .symbol-at .ensures) in
       rw (at-past .past .ensures) (omega arith)
 
   is-symbol-requires-2 : lts.Need-is-symbol-requires-2 (calls t) (paren-at t) reads.Post
@@ -64,8 +64,8 @@ module _ (t : ℕ) where
       let at-if1 = at-past .before in
       let at-start = at-if1 .before .before .before .before .before .before .before in
       let r = at-start .pre .1 .0 in
-      let m = met (code.RParen ∷ []) refl refl (r .tokens) (r .here) (at-if1 .if1 .taken) (at-if1 .before .is-symbol .ensures) (at-if1 .before .before .symbol-at .ensures) in
-      rw (at-past .past .ensures) (record { comes = λ vs. or-first (r .here) (m .seen) (tok-then (r .here) (m .seen) (act-changed (r .used ∙ sym (m .text)) (rw (at-past .past .ensures) at (at-widen .widen .ensures (at-start .args .src .now))))) })
+      let m = ready-tested (code.RParen ∷ []) refl refl r (at-if1 .if1 .taken) (at-if1 .before .is-symbol .ensures) (at-if1 .before .before .symbol-at .ensures) in
+      rw (at-past .past .ensures) (record { comes = λ vs. or-first (r .here) (m .seen) (tok-then (r .here) (m .seen) (act-changed (m .used) (rw (at-past .past .ensures) at (at-widen .widen .ensures (at-start .args .src .now))))) })
 
   same-length-2 : lts.Need-same-length-2 (calls t) (paren-at t) reads.Post
   same-length-2 c = search needs
@@ -78,7 +78,7 @@ module _ (t : ℕ) where
       let at-if1 = at-if2 .before .before in
       let r = at-if1 .before .before .before .before .before .before .before .pre .1 .0 in
       let e = learnt (code.RParen ∷ []) (at-if1 .if1 .left) (at-if1 .before .is-symbol .ensures) (at-if1 .before .before .symbol-at .ensures) in
-      let m = met (code.Comma ∷ []) refl refl (r .tokens) (r .here) (at-if2 .if2 .taken) (at-if2 .before .is-symbol2 .ensures) (at-if1 .before .before .symbol-at .ensures) in
+      let m = ready-tested (code.Comma ∷ []) refl refl r (at-if2 .if2 .taken) (at-if2 .before .is-symbol2 .ensures) (at-if1 .before .before .symbol-at .ensures) in
       record { comes = λ vs. or-next (r .here) e (tok-then (r .here) (m .seen) (flat (one-then (list-parts (low-member false) (m .inside) (m .seen) refl (at-listed .listed .ensures .comes vs))))) }
 
   returns-3 : lts.Need-returns-3 (calls t) (paren-at t) reads.Post

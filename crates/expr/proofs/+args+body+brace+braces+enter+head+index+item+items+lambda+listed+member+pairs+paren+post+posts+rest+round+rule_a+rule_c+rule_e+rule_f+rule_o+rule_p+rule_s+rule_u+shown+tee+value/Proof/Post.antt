@@ -1,10 +1,9 @@
 -- `expr::post`, a member of the cycle.
 -- Assumes nothing.
 use Rattle.pyhyeon.specs.Rules.{names}
-use Rattle.expr.proofs.Tested.{met, met-wrote}
+use Rattle.joint.proofs.Taken.{Taken, taken-ready, next-tested, taken-wrote}
 use Rattle.joint.proofs.Loops.{ready-of}
 use Rattle.joint.proofs.Chain.{tok-then, tok-not, or-first, or-next}
-use Rattle.lookahead.proofs.Tokens.{Took, took}
 use Rattle.lookahead.proofs.Tests.{learnt, coded, not-first}
 use Rattle.token.specs.Code as code
 use Rattle.grammar.specs.Descent.{null, begins}
@@ -35,8 +34,8 @@ module _ (t : ℕ) where
     abbrev start : lts.Start (calls t) (post-at t) reads.Post
     start = c .before .before .before .before .before
 
-    passed : Took (start .args .src .now) (start .args .toks .now) (start .args .s .at .0)
-    passed = took (code.Dot ∷ code.LParen ∷ code.LBracket ∷ []) refl refl (start .pre .1 .0 .tokens) (start .pre .1 .0 .here) (start .pre .1 .1 .1)
+    passed : Taken (start .args .src .now) (start .args .toks .now) (code.Dot ∷ code.LParen ∷ code.LBracket ∷ []) (start .args .s)
+    passed = taken-ready (code.Dot ∷ code.LParen ∷ code.LBracket ∷ []) refl refl (start .pre .1 .0) (start .pre .1 .1 .1)
 
   symbol-at-requires : lts.Need-symbol-at-requires (calls t) (post-at t) reads.Post
   symbol-at-requires c κs = search needs
@@ -44,7 +43,7 @@ module _ (t : ℕ) where
   symbol-at-requires-2 : lts.Need-symbol-at-requires-2 (calls t) (post-at t) reads.Post
   symbol-at-requires-2 c κs =
       let at-past = c .before .before .before in
-      rw (at-past .past .ensures) (start at-past .pre .1 .0 .tokens, passed at-past .inside)
+      rw (at-past .past .ensures) (passed at-past .tokens, passed at-past .inside)
 
   is-name-requires : lts.Need-is-name-requires (calls t) (post-at t) reads.Post
   is-name-requires c κs = search needs
@@ -57,9 +56,8 @@ module _ (t : ℕ) where
       let at-if1 = c .before .before in
       let at-past = at-if1 .before .before .before .before .before .before in
       let at-start = start at-past in
-      let r = at-start .pre .1 .0 in
       let l = passed at-past in
-      let m = met names refl refl (r .tokens) (l .inside) (at-if1 .if1 .taken) (at-if1 .before .is-name .ensures) (rw (at-past .past .ensures) at (at-if1 .before .before .symbol-at2 .ensures)) in
+      let m = next-tested names refl refl l (at-if1 .if1 .taken) (at-if1 .before .is-name .ensures) (rw (at-past .past .ensures) at (at-if1 .before .before .symbol-at2 .ensures)) in
       rw (c .past2 .ensures, at-past .past .ensures) (omega arith)
 
   args-requires : lts.Need-args-requires (calls t) (post-at t) reads.Post
@@ -87,22 +85,20 @@ module _ (t : ℕ) where
       let at-match = at-if1 .before .before .before .before in
       let at-past = at-match .before .before in
       let at-start = at-past .before .before .before .before .before in
-      let r = at-start .pre .1 .0 in
       let l = passed at-past in
       let e = coded (code.Dot ∷ []) 45 (at-match .before .symbol-at .ensures) (at-match .match .keys1) refl in
-      let m = met names refl refl (r .tokens) (l .inside) (at-if1 .if1 .taken) (at-if1 .before .is-name .ensures) (rw (at-past .past .ensures) at (at-if1 .before .before .symbol-at2 .ensures)) in
-      record { comes = λ vs. or-first (r .here) e (tok-then (r .here) e (met-wrote (r .used ∙ sym (l .text)) m (rw (at-put-attribute .before .past2 .ensures, at-past .past .ensures) at (at-put-attribute .put-attribute .ensures (at-start .args .src .now))))) }
+      let m = next-tested names refl refl l (at-if1 .if1 .taken) (at-if1 .before .is-name .ensures) (rw (at-past .past .ensures) at (at-if1 .before .before .symbol-at2 .ensures)) in
+      record { comes = λ vs. or-first (l .here) e (tok-then (l .here) e (taken-wrote m (rw (at-put-attribute .before .past2 .ensures, at-past .past .ensures) at (at-put-attribute .put-attribute .ensures (at-start .args .src .now))))) }
 
   returns-2 : lts.Need-returns-2 (calls t) (post-at t) reads.Post
   unfolding begins null
   returns-2 c =
       let at-match = c .before .before .before .before in
       let at-past = at-match .before .before in
-      let r = start at-past .pre .1 .0 in
       let l = passed at-past in
       let e = coded (code.Dot ∷ []) 45 (at-match .before .symbol-at .ensures) (at-match .match .keys1) refl in
       let n = learnt names (c .if1 .left) (c .before .is-name .ensures) (rw (at-past .past .ensures) at (c .before .before .symbol-at2 .ensures)) in
-      rw (at-past .past .ensures) (record { comes = λ vs. or-first (r .here) e (tok-then (r .here) e (tok-not (l .inside) (r .used ∙ sym (l .text)) n)) })
+      rw (at-past .past .ensures) (record { comes = λ vs. or-first (l .here) e (tok-then (l .here) e (tok-not (l .inside) (l .used) n)) })
 
   same-length-2 : lts.Need-same-length-2 (calls t) (post-at t) reads.Post
   same-length-2 c = search needs

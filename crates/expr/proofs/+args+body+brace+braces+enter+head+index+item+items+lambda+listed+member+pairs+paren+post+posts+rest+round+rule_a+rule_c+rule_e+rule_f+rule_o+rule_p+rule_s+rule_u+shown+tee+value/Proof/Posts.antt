@@ -5,7 +5,7 @@ use Rattle.pyhyeon.specs.Rules.{postfix}
 use Rattle.pyhyeon.specs.Machine.{node}
 use Prim.Native.Nat.{_-_}
 use Rattle.expr.proofs.Low.{low-postfix, bounded-postfix}
-use Rattle.expr.proofs.Tested.{met}
+use Rattle.joint.proofs.Taken.{ready-tested}
 use Rattle.joint.proofs.Loops.{Going, begin, ready-of}
 use Rattle.joint.proofs.Chain.{flat-then, flat-stop, turn-on, turn-end}
 use Rattle.joint.proofs.Bounds.{after-part}
@@ -62,7 +62,7 @@ module _ (t : ℕ) where
       let at-post = at-more .before .before .before .before in
       let at-if1 = at-post .before .before in
       let i = at-if1 .before .before .before .before .loop .inv in
-      let m = met (code.Dot ∷ code.LParen ∷ code.LBracket ∷ []) refl refl (i .ready .tokens) (i .ready .here) (at-if1 .if1 .taken) (at-if1 .before .begins-postfix .ensures) (at-if1 .before .before .symbol-at .ensures) in
+      let m = ready-tested (code.Dot ∷ code.LParen ∷ code.LBracket ∷ []) refl refl (i .ready) (at-if1 .if1 .taken) (at-if1 .before .begins-postfix .ensures) (at-if1 .before .before .symbol-at .ensures) in
       let g = after-part _ _ (i .ready .tokens) _ bounded-postfix (omega arith) (i .node) (at-post .post .ensures) (at-more .more .given .1) in
       omega arith
 
@@ -73,7 +73,7 @@ module _ (t : ℕ) where
       let at-post = at-more .before .before .before .before in
       let at-if1 = at-post .before .before in
       let i = at-if1 .before .before .before .before .loop .inv in
-      let m = met (code.Dot ∷ code.LParen ∷ code.LBracket ∷ []) refl refl (i .ready .tokens) (i .ready .here) (at-if1 .if1 .taken) (at-if1 .before .begins-postfix .ensures) (at-if1 .before .before .symbol-at .ensures) in
+      let m = ready-tested (code.Dot ∷ code.LParen ∷ code.LBracket ∷ []) refl refl (i .ready) (at-if1 .if1 .taken) (at-if1 .before .begins-postfix .ensures) (at-if1 .before .before .symbol-at .ensures) in
       let g = after-part _ _ (i .ready .tokens) _ bounded-postfix (omega arith) (i .node) (at-post .post .ensures) (at-more .more .given .1) in
       let k = at-post .post .kept .1 .0 in
       record {

@@ -6,7 +6,7 @@ use Rattle.leaves.specs.Contract.{past}
 use mathlib.Core.Bool.{true}
 use Rattle.expr.specs.Parts.{others}
 use Rattle.expr.proofs.Low.{low-member, begins-member, bounded-member}
-use Rattle.expr.proofs.Tested.{Met, met}
+use Rattle.joint.proofs.Taken.{Taken, ready-tested}
 use Rattle.joint.proofs.Loops.{Listing, begin-list, lists-node, lists-stop, ready-of}
 use Rattle.joint.proofs.Ends.{one-then, changed-then}
 use Rattle.joint.proofs.Chain.{part-then, part-stop, list-on, list-shut, list-end}
@@ -63,10 +63,8 @@ module _ (t : ℕ) where
     abbrev start : lts.Start (calls t) (rest-at t) reads.Post Inv-loop μ-loop
     start = turn .before .before .before .before
 
-    comma : Met (start .args .src .now) (start .args .toks .now) (code.Comma ∷ []) (turn .loop .st .at .0)
-    comma =
-        let i = turn .loop .inv in
-        met (code.Comma ∷ []) refl refl (i .ready .tokens) (i .ready .here) (c .before .if1 .taken) (c .before .before .is-symbol .ensures) (c .before .before .before .symbol-at .ensures)
+    comma : Taken (start .args .src .now) (start .args .toks .now) (code.Comma ∷ []) (turn .loop .st)
+    comma = ready-tested (code.Comma ∷ []) refl refl (turn .loop .inv .ready) (c .before .if1 .taken) (c .before .before .is-symbol .ensures) (c .before .before .before .symbol-at .ensures)
 
   -- where an E begins behind it
   module _ (c : lts.Then2 (calls t) (rest-at t) reads.Post Inv-loop μ-loop) where
@@ -88,7 +86,7 @@ module _ (t : ℕ) where
         after-start _ _ w (bounded-member (start (passed began) .args .paired)) lt (rw (passed began .past .ensures) at (c .before .before .before .before .member .ensures)) (c .inner .given .1)
 
   symbol-at-requires-2 : lts.Need-symbol-at-requires-2 (calls t) (rest-at t) reads.Post Inv-loop μ-loop
-  symbol-at-requires-2 c κs = rw (c .before .past .ensures) (turn (c .before) .loop .inv .ready .tokens, comma (c .before) .inside)
+  symbol-at-requires-2 c κs = rw (c .before .past .ensures) (comma (c .before) .tokens, comma (c .before) .inside)
 
   begins-e-requires : lts.Need-begins-e-requires (calls t) (rest-at t) reads.Post Inv-loop μ-loop
   begins-e-requires c κs = search needs

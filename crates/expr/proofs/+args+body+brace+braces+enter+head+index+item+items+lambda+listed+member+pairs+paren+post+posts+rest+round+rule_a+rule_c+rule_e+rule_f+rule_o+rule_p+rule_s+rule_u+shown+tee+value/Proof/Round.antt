@@ -1,6 +1,7 @@
 -- `expr::round`, a member of the cycle.
 -- Assumes nothing.
-use Rattle.expr.proofs.Tested.{met, after-e}
+use Rattle.expr.proofs.Read.{after-e}
+use Rattle.joint.proofs.Taken.{ready-tested}
 use Rattle.joint.proofs.Loops.{ready-of}
 use Rattle.joint.proofs.Chain.{tok-then, tok-not, called, part-then, part-stop, or-first, or-next}
 use Rattle.leaves.specs.Contract.{Begun}
@@ -74,7 +75,7 @@ module _ (t : ℕ) where
       let at-symbol-at = at-if2 .before .before .before .before in
       let at-start = at-symbol-at .before .before .before .before .before in
       let r = at-start .pre .1 .0 in
-      let m = met (code.RParen ∷ []) refl refl (r .tokens) (r .here) (at-if2 .if2 .taken) (at-if2 .before .is-symbol .ensures) (at-symbol-at .symbol-at .ensures) in
+      let m = ready-tested (code.RParen ∷ []) refl refl r (at-if2 .if2 .taken) (at-if2 .before .is-symbol .ensures) (at-symbol-at .symbol-at .ensures) in
       rw (c .past .ensures) (ready-of (r .tokens) (omega arith), omega arith)
 
   same-length : lts.Need-same-length (calls t) (round-at t) reads.Post

@@ -1,6 +1,6 @@
 -- `expr::rule_e`, a member of the cycle.
 -- Assumes nothing.
-use Rattle.expr.proofs.Tested.{met}
+use Rattle.joint.proofs.Taken.{ready-tested}
 use Rattle.joint.proofs.Loops.{ready-of}
 use Rattle.joint.proofs.Ends.{tok-mark}
 use Rattle.joint.proofs.Chain.{called, or-first, or-next, open-deep, open-room}
@@ -47,7 +47,7 @@ module _ (t : ℕ) where
       let at-if2 = c .before .before in
       let at-start = at-if2 .before .before .before .before .before .before .before .before .before in
       let r = at-start .pre .1 .0 in
-      let m = met (code.Lambda ∷ []) refl refl (r .tokens) (r .here) (at-if2 .if2 .taken) (at-if2 .before .is-symbol .ensures) (at-if2 .before .before .symbol-at .ensures) in
+      let m = ready-tested (code.Lambda ∷ []) refl refl r (at-if2 .if2 .taken) (at-if2 .before .is-symbol .ensures) (at-if2 .before .before .symbol-at .ensures) in
       (omega arith, (ready-of (r .tokens) (omega arith), omega arith))
 
   rule-o-requires : lts.Need-rule-o-requires (calls t) (rule-e-at t) reads.Post

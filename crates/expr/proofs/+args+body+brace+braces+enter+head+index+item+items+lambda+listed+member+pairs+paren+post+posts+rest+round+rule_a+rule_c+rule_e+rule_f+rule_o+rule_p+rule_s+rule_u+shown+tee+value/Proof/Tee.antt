@@ -1,6 +1,6 @@
 -- `expr::tee`, a member of the cycle.
 -- Assumes nothing.
-use Rattle.expr.proofs.Tested.{met}
+use Rattle.joint.proofs.Taken.{ready-tested}
 use Rattle.joint.proofs.Ends.{mark-at}
 use Rattle.joint.proofs.Loops.{ready-of}
 use Rattle.joint.proofs.Ends.{act-wrote}
@@ -40,7 +40,7 @@ module _ (t : ℕ) where
       let at-if1 = c .before .before in
       let at-start = at-if1 .before .before .before .before .before .before .before in
       let r = at-start .pre .1 .0 in
-      let m = met (code.LBrace ∷ []) refl refl (r .tokens) (r .here) (at-if1 .if1 .taken) (at-if1 .before .is-symbol .ensures) (at-if1 .before .before .symbol-at .ensures) in
+      let m = ready-tested (code.LBrace ∷ []) refl refl r (at-if1 .if1 .taken) (at-if1 .before .is-symbol .ensures) (at-if1 .before .before .symbol-at .ensures) in
       rw (c .past .ensures) (omega arith, (ready-of (r .tokens) (omega arith), (omega arith, refl, refl)))
 
   put-named-requires : lts.Need-put-named-requires (calls t) (tee-at t) reads.Post

@@ -1,6 +1,7 @@
 -- `expr::comma_list` meets its contract: t, the comma list of E outside brackets.
 -- Assumes nothing.
-use Rattle.expr.proofs.Tested.{met, after-enter}
+use Rattle.expr.proofs.Read.{after-enter}
+use Rattle.joint.proofs.Taken.{Taken, taken-tested}
 use Rattle.joint.proofs.Loops.{ready-of}
 use Rattle.joint.proofs.Chain.{tok-then, part-then, part-stop, or-first, or-next, skip-end}
 use Rattle.joint.proofs.Bounds.{Grown}
@@ -22,6 +23,14 @@ module _ (c : tie.After-inner) where
   behind : Grown (start .args .src .now) (start .args .toks .now) 8 (start .args .s) (c .inner .given .0 .0) (c .inner .given .0 .1 .0)
   behind = after-enter (start .pre) (c .before .before .before .before .enter .ensures) (c .inner .given .1)
 
+-- where a comma stands behind it
+module _ (c : tie.Then1) where
+  abbrev read : tie.After-inner
+  read = c .before .before .before .before .before
+
+  comma : Taken (start read .args .src .now) (start read .args .toks .now) (code.Comma ∷ []) (read .inner .given .0 .1 .0)
+  comma = taken-tested (code.Comma ∷ []) refl refl (start read .pre .tokens) (behind read .here) (behind read .used) (c .if1 .taken) (c .before .is-symbol .ensures) (c .before .before .symbol-at .ensures)
+
 enter-requires : tie.Need-enter-requires
 enter-requires c κs = search needs
 
@@ -42,11 +51,11 @@ past-requires c κs =
 comma-rest-requires : tie.Need-comma-rest-requires
 comma-rest-requires c κs =
     let at-if1 = c .before .before in
-    let at-inner = at-if1 .before .before .before .before .before in
+    let at-inner = read at-if1 in
     let at-enter = at-inner .before .before .before .before in
     let r = start at-inner .pre in
     let g = behind at-inner in
-    let m = met (code.Comma ∷ []) refl refl (r .tokens) (g .here) (at-if1 .if1 .taken) (at-if1 .before .is-symbol .ensures) (at-if1 .before .before .symbol-at .ensures) in
+    let m = comma at-if1 in
     rw (c .past .ensures) (ready-of (r .tokens) (omega arith), g .node)
 
 enum-known-inner-2 : tie.Need-enum-known-inner-2
@@ -60,11 +69,9 @@ unfolding begins null
 returns c =
     let at-comma-rest = c .before .before in
     let at-if1 = at-comma-rest .before .before .before in
-    let at-inner = at-if1 .before .before .before .before .before in
+    let at-inner = read at-if1 in
     let at-enter = at-inner .before .before .before .before in
-    let r = start at-inner .pre in
-    let g = behind at-inner in
-    let m = met (code.Comma ∷ []) refl refl (r .tokens) (g .here) (at-if1 .if1 .taken) (at-if1 .before .is-symbol .ensures) (at-if1 .before .before .symbol-at .ensures) in
+    let m = comma at-if1 in
     record { comes = λ vs. part-then (at-enter .enter .ensures) (at-inner .inner .given .1) (or-first (m .here) (m .seen) (tok-then (m .here) (m .seen) (rw (at-comma-rest .before .past .ensures) at (at-comma-rest .comma-rest .ensures .comes vs)))) }
 
 same-length-2 : tie.Need-same-length-2

@@ -1,6 +1,6 @@
 -- `expr::comma_rest` meets its contract: after the first comma of t.
 -- Assumes nothing.
-use Rattle.expr.proofs.Tested.{after-e}
+use Rattle.expr.proofs.Read.{after-e}
 use Rattle.joint.proofs.Loops.{ready-of}
 use Rattle.joint.proofs.Ends.{act-wrote, one-then, changed-then}
 use Rattle.joint.proofs.Chain.{called, part-then, part-stop, flat, or-first, or-next, skip-end}

@@ -1,7 +1,7 @@
 -- `expr::names` meets its contract: a list of names.
 -- Assumes nothing.
 use Rattle.pyhyeon.specs.Rules.{names}
-use Rattle.expr.proofs.Tested.{met}
+use Rattle.joint.proofs.Taken.{ready-tested}
 use Rattle.joint.proofs.Loops.{ready-of}
 use Rattle.joint.proofs.Ends.{none-last, wrote-then, one-then}
 use Rattle.joint.proofs.Chain.{tok-then, flat, or-first, or-next}
@@ -26,7 +26,7 @@ put-named-requires : tie.Need-put-named-requires
 put-named-requires c κs =
     let at-if1 = c .before .before in
     let r = at-if1 .before .before .before .before .before .before .before .pre in
-    let m = met names refl refl (r .tokens) (r .here) (at-if1 .if1 .taken) (at-if1 .before .is-name .ensures) (at-if1 .before .before .symbol-at .ensures) in
+    let m = ready-tested names refl refl r (at-if1 .if1 .taken) (at-if1 .before .is-name .ensures) (at-if1 .before .before .symbol-at .ensures) in
     rw (c .past .ensures) (omega arith)
 
 names-rest-requires : tie.Need-names-rest-requires
@@ -34,7 +34,7 @@ names-rest-requires c κs =
     let at-put-named = c .before .before .before .before .before in
     let at-if1 = at-put-named .before .before .before in
     let r = at-if1 .before .before .before .before .before .before .before .pre in
-    let m = met names refl refl (r .tokens) (r .here) (at-if1 .if1 .taken) (at-if1 .before .is-name .ensures) (at-if1 .before .before .symbol-at .ensures) in
+    let m = ready-tested names refl refl r (at-if1 .if1 .taken) (at-if1 .before .is-name .ensures) (at-if1 .before .before .symbol-at .ensures) in
     let w = rw (at-put-named .before .past .ensures) at (at-put-named .put-named .ensures (at-if1 .before .before .before .before .before .before .before .args .src .now)) in
     rw (w .after) (ready-of (r .tokens) (omega arith), omega (arith, w .node))
 
@@ -48,7 +48,7 @@ returns c =
     let at-put-named = at-names-rest .before .before .before .before .before .before in
     let at-if1 = at-put-named .before .before .before in
     let r = at-if1 .before .before .before .before .before .before .before .pre in
-    let m = met names refl refl (r .tokens) (r .here) (at-if1 .if1 .taken) (at-if1 .before .is-name .ensures) (at-if1 .before .before .symbol-at .ensures) in
+    let m = ready-tested names refl refl r (at-if1 .if1 .taken) (at-if1 .before .is-name .ensures) (at-if1 .before .before .symbol-at .ensures) in
     let w = rw (at-put-named .before .past .ensures) at (at-put-named .put-named .ensures (at-if1 .before .before .before .before .before .before .before .args .src .now)) in
     λ room. record { comes = λ vs. or-first (m .here) (m .seen) (flat (tok-then (m .here) (m .seen) (wrote-then w (one-then (at-names-rest .names-rest .ensures room .comes vs))))) }
 

@@ -4,10 +4,11 @@ use Rattle.expr.specs.Parts.{name}
 use Rattle.grammar.specs.Grammar.{tail}
 use Rattle.token.specs.Code.{Comma}
 use Rattle.lookahead.specs.Tokens.{eofAt}
+use Rattle.leaves.specs.Contract.{past}
 use Rattle.pyhyeon.specs.Rules.{names, more}
-use Prim.Native.Nat.{ℕ, _+_, _-_}
+use Prim.Native.Nat.{ℕ, _-_}
 use Rattle.expr.proofs.Low.{low-names}
-use Rattle.expr.proofs.Tested.{Met, met}
+use Rattle.joint.proofs.Taken.{Taken, ready-tested, next-tested}
 use Rattle.joint.proofs.Loops.{Listing, begin-list, ready-of}
 use Rattle.joint.proofs.Ends.{list-last, wrote-then, one-then, changed-then}
 use Rattle.joint.proofs.Chain.{tok-then, flat, list-on, list-shut, list-end}
@@ -15,7 +16,7 @@ use Rattle.lookahead.proofs.Tests.{learnt}
 use Rattle.token.specs.Code as code
 use Rattle.grammar.specs.Descent.{null, begins}
 use mathlib.Core.List.{[], _∷_}
-use mathlib.Core.Path.{refl, sym, _∙_}
+use mathlib.Core.Path.{refl}
 use native.Mathlib.Omega.{arith}
 use borrow.Author.Needs.{needs}
 use Rattle.expr.proofs.parameters.names_rest.Statement.{statement}
@@ -54,21 +55,19 @@ module _ (c : tie.Then1 Inv-loop μ-loop) where
   abbrev start : tie.Start Inv-loop μ-loop
   start = turn .before .before .before .before
 
-  comma : Met (start .args .src .now) (start .args .toks .now) (code.Comma ∷ []) (turn .loop .st .at .0)
-  comma =
-      let r = turn .loop .inv 0 .ready in
-      met (code.Comma ∷ []) refl refl (r .tokens) (r .here) (c .if1 .taken) (c .before .is-symbol .ensures) (c .before .before .symbol-at .ensures)
+  comma : Taken (start .args .src .now) (start .args .toks .now) (code.Comma ∷ []) (turn .loop .st)
+  comma = ready-tested (code.Comma ∷ []) refl refl (turn .loop .inv 0 .ready) (c .if1 .taken) (c .before .is-symbol .ensures) (c .before .before .symbol-at .ensures)
 
 -- where a name stands behind it
 module _ (c : tie.Then2 Inv-loop μ-loop) where
   abbrev passed : tie.After-past Inv-loop μ-loop
   passed = c .before .before .before .before
 
-  named : Met (start (passed .before) .args .src .now) (start (passed .before) .args .toks .now) names (turn (passed .before) .loop .st .at .0 + 1)
-  named = met names refl refl (turn (passed .before) .loop .inv 0 .ready .tokens) (comma (passed .before) .inside) (c .if2 .taken) (c .before .is-name .ensures) (rw (passed .past .ensures) at (c .before .before .symbol-at2 .ensures))
+  named : Taken (start (passed .before) .args .src .now) (start (passed .before) .args .toks .now) names (past (turn (passed .before) .loop .st))
+  named = next-tested names refl refl (comma (passed .before)) (c .if2 .taken) (c .before .is-name .ensures) (rw (passed .past .ensures) at (c .before .before .symbol-at2 .ensures))
 
 symbol-at-requires-2 : tie.Need-symbol-at-requires-2 Inv-loop μ-loop
-symbol-at-requires-2 c κs = rw (c .before .past .ensures) (turn (c .before .before) .loop .inv 0 .ready .tokens, comma (c .before .before) .inside)
+symbol-at-requires-2 c κs = rw (c .before .past .ensures) (comma (c .before .before) .tokens, comma (c .before .before) .inside)
 
 is-name-requires : tie.Need-is-name-requires Inv-loop μ-loop
 is-name-requires c κs = search needs
@@ -142,10 +141,9 @@ returns : tie.Need-returns Inv-loop μ-loop
 unfolding begins null
 returns c =
     let at-past = c .before .before .before .before in
-    let i = turn (at-past .before) .loop .inv 0 in
     let m = comma (at-past .before) in
     let n = learnt names (c .if2 .left) (c .before .is-name .ensures) (rw (at-past .past .ensures) at (c .before .before .symbol-at2 .ensures)) in
-    λ room. rw (at-past .past .ensures) (record { comes = λ vs. turn (at-past .before) .loop .inv room .same _ _ _ _ (list-shut low-names (m .inside) (m .seen) n (list-last (i .ready .used ∙ sym (m .text)))) })
+    λ room. rw (at-past .past .ensures) (record { comes = λ vs. turn (at-past .before) .loop .inv room .same _ _ _ _ (list-shut low-names (m .inside) (m .seen) n (list-last (m .used))) })
 
 same-length-2 : tie.Need-same-length-2 Inv-loop μ-loop
 same-length-2 c =

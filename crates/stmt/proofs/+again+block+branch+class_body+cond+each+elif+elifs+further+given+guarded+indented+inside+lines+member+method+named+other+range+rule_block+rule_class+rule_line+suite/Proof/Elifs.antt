@@ -7,7 +7,7 @@ use Rattle.joint.proofs.Loops.{ready-of}
 use Rattle.joint.proofs.Ends.{one-then, none-last}
 use Rattle.joint.proofs.Chain.{flat, flat-then, flat-stop, or-first, or-next}
 use Rattle.joint.proofs.Counts.{came-start, came-node}
-use Rattle.joint.proofs.Taken.{Taken, taken-ready}
+use Rattle.joint.proofs.Taken.{Taken, ready-tested}
 use Rattle.lookahead.proofs.Tests.{learnt}
 use Rattle.grammar.specs.Descent.{null, begins}
 use Rattle.token.specs.Code as code
@@ -32,7 +32,7 @@ module _ (t : ℕ) where
   keyword : (c : lts.Then1 (calls t) (elifs-at t) reads.Post) → let at-start = c .before .before .before .before .before .before .before in Taken (at-start .args .src .now) (at-start .args .toks .now) (code.Elif ∷ []) (at-start .args .s)
   keyword c =
       let at-start = c .before .before .before .before .before .before .before in
-      taken-ready (code.Elif ∷ []) refl refl (at-start .pre .1) (learnt (code.Elif ∷ []) (c .if1 .taken) (c .before .is-symbol .ensures) (c .before .before .symbol-at .ensures))
+      ready-tested (code.Elif ∷ []) refl refl (at-start .pre .1) (c .if1 .taken) (c .before .is-symbol .ensures) (c .before .before .symbol-at .ensures)
 
   symbol-at-requires : lts.Need-symbol-at-requires (calls t) (elifs-at t) reads.Post
   symbol-at-requires c κs =

@@ -11,7 +11,7 @@ use Rattle.joint.proofs.Ends.{act-wrote}
 use Rattle.joint.proofs.Loops.{ready-of}
 use Rattle.joint.proofs.Counts.{came-call, pays-block}
 use Rattle.simple.proofs.Newest.{newest-wrote, newest-refused}
-use Rattle.joint.proofs.Taken.{Taken, taken}
+use Rattle.joint.proofs.Taken.{Taken, taken-tested}
 use Rattle.expr.proofs.Low.{modest-parameters}
 use borrow.Author.Needs.{needs}
 use native.Mathlib.Omega.{arith}
@@ -42,7 +42,7 @@ module _ (t : ℕ) where
       let at-names = c .before .before .before .before .before .before .before .before in
       let at-start = at-names .before .before .before .before .before in
       let g = went at-names in
-      taken (code.RParen ∷ []) refl refl (at-start .pre .1 .0 .tokens) (g .here) (g .used) (learnt (code.RParen ∷ []) (c .if1 .taken) (c .before .is-symbol .ensures) (c .before .before .symbol-at .ensures))
+      taken-tested (code.RParen ∷ []) refl refl (at-start .pre .1 .0 .tokens) (g .here) (g .used) (c .if1 .taken) (c .before .is-symbol .ensures) (c .before .before .symbol-at .ensures)
 
   names-requires : lts.Need-names-requires (calls t) (given-at t) reads.Post
   names-requires c κs =

@@ -7,7 +7,7 @@ use Rattle.lookahead.proofs.Tests.{learnt}
 use Rattle.joint.proofs.Chain.{tok-not}
 use Rattle.joint.proofs.Ends.{tok-mark}
 use Rattle.joint.proofs.Loops.{ready-of}
-use Rattle.joint.proofs.Taken.{Taken, taken-ready}
+use Rattle.joint.proofs.Taken.{Taken, ready-tested}
 use borrow.Author.Needs.{needs}
 use native.Mathlib.Omega.{arith}
 use Prim.Native.Nat.{ℕ}
@@ -27,7 +27,7 @@ module _ (t : ℕ) where
   def : (c : lts.Then1 (calls t) (method-at t) reads.Post) → let at-start = c .before .before .before .before .before .before .before in Taken (at-start .args .src .now) (at-start .args .toks .now) (code.Def ∷ []) (at-start .args .s)
   def c =
       let at-start = c .before .before .before .before .before .before .before in
-      taken-ready (code.Def ∷ []) refl refl (at-start .pre .1) (learnt (code.Def ∷ []) (c .if1 .taken) (c .before .is-symbol .ensures) (c .before .before .symbol-at .ensures))
+      ready-tested (code.Def ∷ []) refl refl (at-start .pre .1) (c .if1 .taken) (c .before .is-symbol .ensures) (c .before .before .symbol-at .ensures)
 
   symbol-at-requires : lts.Need-symbol-at-requires (calls t) (method-at t) reads.Post
   symbol-at-requires c κs =

@@ -4,7 +4,7 @@ use Rattle.joint.proofs.Loops.{ready-of}
 use Rattle.joint.proofs.Ends.{tok-mark, wrote-then, one-then, list-last, none-last}
 use Rattle.joint.proofs.Chain.{part-then, part-stop, or-first, or-next}
 use Rattle.joint.proofs.Counts.{came-call, pays-block}
-use Rattle.joint.proofs.Taken.{Taken, taken-ready}
+use Rattle.joint.proofs.Taken.{Taken, ready-tested}
 use Rattle.lookahead.proofs.Tests.{learnt}
 use Rattle.pyhyeon.specs.Tables.{first, rank}
 use Rattle.grammar.specs.Descent.{null, begins}
@@ -31,7 +31,7 @@ module _ (t : ℕ) where
   else : (c : lts.Then1 (calls t) (other-at t) reads.Post) → let at-start = c .before .before .before .before .before .before .before in Taken (at-start .args .src .now) (at-start .args .toks .now) (code.Else ∷ []) (at-start .args .s)
   else c =
       let at-start = c .before .before .before .before .before .before .before in
-      taken-ready (code.Else ∷ []) refl refl (at-start .pre .1) (learnt (code.Else ∷ []) (c .if1 .taken) (c .before .is-symbol .ensures) (c .before .before .symbol-at .ensures))
+      ready-tested (code.Else ∷ []) refl refl (at-start .pre .1) (c .if1 .taken) (c .before .is-symbol .ensures) (c .before .before .symbol-at .ensures)
 
   symbol-at-requires : lts.Need-symbol-at-requires (calls t) (other-at t) reads.Post
   symbol-at-requires c κs =

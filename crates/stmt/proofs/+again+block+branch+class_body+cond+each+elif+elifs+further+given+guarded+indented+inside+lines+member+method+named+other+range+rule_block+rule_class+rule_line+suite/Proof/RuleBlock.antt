@@ -8,7 +8,7 @@ use Rattle.pyhyeon.specs.Tables.{joined, first, opens}
 use Rattle.lookahead.proofs.Tests.{learnt}
 use Rattle.joint.proofs.Chain.{tok-then, or-first, or-next, open-deep, open-room}
 use Rattle.joint.proofs.Loops.{ready-of}
-use Rattle.joint.proofs.Taken.{Taken, taken-ready, taken-next}
+use Rattle.joint.proofs.Taken.{Taken, taken-ready, next-tested}
 use Rattle.joint.proofs.Passing.{newlines-pass, run-text}
 use Rattle.stmt.proofs.Blocks.{list-through}
 use Rattle.leaves.specs.Contract.{past}
@@ -34,7 +34,7 @@ module _ (t : ℕ) where
   colon c = taken-ready (code.Colon ∷ []) refl refl (c .pre .1 .0) (c .pre .1 .1 .seen)
 
   newline : (c : lts.Then2 (calls t) (rule-block-at t) reads.Post) → let at-start = c .before .before .before .before .before .before .before .before .before in Taken (at-start .args .src .now) (at-start .args .toks .now) (code.Newline ∷ []) (past (at-start .args .s))
-  newline c = taken-next (code.Newline ∷ []) refl refl (colon (c .before .before .before .before .before .before .before .before .before)) (learnt (code.Newline ∷ []) (c .if2 .taken) (c .before .is-symbol .ensures) (c .before .before .symbol-at .ensures))
+  newline c = next-tested (code.Newline ∷ []) refl refl (colon (c .before .before .before .before .before .before .before .before .before)) (c .if2 .taken) (c .before .is-symbol .ensures) (c .before .before .symbol-at .ensures)
 
   sub-room : lts.Need-sub-room (calls t) (rule-block-at t) reads.Post
   sub-room c = search needs

@@ -10,7 +10,7 @@ use Rattle.joint.proofs.Chain.{tok-not, flat, open-plain}
 use Rattle.joint.proofs.Ends.{tok-mark}
 use Rattle.joint.proofs.Loops.{ready-of}
 use Rattle.simple.proofs.Newest.{newest-refused}
-use Rattle.joint.proofs.Taken.{Taken, taken-ready, taken-next}
+use Rattle.joint.proofs.Taken.{Taken, taken-ready, next-tested}
 use Rattle.leaves.specs.Contract.{past}
 use borrow.Author.Needs.{needs}
 use native.Mathlib.Omega.{arith}
@@ -33,7 +33,7 @@ module _ (t : ℕ) where
   class c = taken-ready (code.Class ∷ []) refl refl (c .pre .1 .0) (c .pre .1 .1 .seen)
 
   name : (c : lts.Then1 (calls t) (rule-class-at t) reads.Post) → let at-start = c .before .before .before .before .before .before .before .before .before in Taken (at-start .args .src .now) (at-start .args .toks .now) names (past (at-start .args .s))
-  name c = taken-next names refl refl (class (c .before .before .before .before .before .before .before .before .before)) (learnt names (c .if1 .taken) (c .before .is-name .ensures) (c .before .before .symbol-at .ensures))
+  name c = next-tested names refl refl (class (c .before .before .before .before .before .before .before .before .before)) (c .if1 .taken) (c .before .is-name .ensures) (c .before .before .symbol-at .ensures)
 
   add-opened : lts.Need-add-opened (calls t) (rule-class-at t) reads.Post
   add-opened c = omega arith

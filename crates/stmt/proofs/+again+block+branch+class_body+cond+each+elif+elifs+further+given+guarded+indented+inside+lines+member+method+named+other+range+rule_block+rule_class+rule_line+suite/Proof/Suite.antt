@@ -8,7 +8,7 @@ use Rattle.joint.proofs.Chain.{tok-then, tok-not}
 use Rattle.joint.proofs.Passing.{newlines-pass, run-text}
 use Rattle.joint.proofs.Loops.{ready-of}
 use Rattle.simple.proofs.Newest.{newest-refused}
-use Rattle.joint.proofs.Taken.{Taken, taken-ready, taken-next}
+use Rattle.joint.proofs.Taken.{Taken, ready-tested, next-tested}
 use Rattle.leaves.specs.Contract.{past}
 use borrow.Author.Needs.{needs}
 use native.Mathlib.Omega.{arith}
@@ -30,12 +30,12 @@ module _ (t : ℕ) where
   colon : (c : lts.Then1 (calls t) (suite-at t) reads.Post) → let at-start = c .before .before .before .before .before .before .before in Taken (at-start .args .src .now) (at-start .args .toks .now) (code.Colon ∷ []) (at-start .args .s)
   colon c =
       let at-start = c .before .before .before .before .before .before .before in
-      taken-ready (code.Colon ∷ []) refl refl (at-start .pre .1 .0) (learnt (code.Colon ∷ []) (c .if1 .taken) (c .before .is-symbol .ensures) (c .before .before .symbol-at .ensures))
+      ready-tested (code.Colon ∷ []) refl refl (at-start .pre .1 .0) (c .if1 .taken) (c .before .is-symbol .ensures) (c .before .before .symbol-at .ensures)
 
   newline : (c : lts.Then2 (calls t) (suite-at t) reads.Post) → let at-start = c .before .before .before .before .before .before .before .before .before .before .before .before in Taken (at-start .args .src .now) (at-start .args .toks .now) (code.Newline ∷ []) (past (at-start .args .s))
   newline c =
       let at-past = c .before .before .before .before in
-      taken-next (code.Newline ∷ []) refl refl (colon (at-past .before)) (learnt (code.Newline ∷ []) (c .if2 .taken) (c .before .is-symbol2 .ensures) (rw (at-past .past .ensures) at (c .before .before .symbol-at2 .ensures)))
+      next-tested (code.Newline ∷ []) refl refl (colon (at-past .before)) (c .if2 .taken) (c .before .is-symbol2 .ensures) (rw (at-past .past .ensures) at (c .before .before .symbol-at2 .ensures))
 
   symbol-at-requires : lts.Need-symbol-at-requires (calls t) (suite-at t) reads.Post
   symbol-at-requires c κs =
