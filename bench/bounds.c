@@ -1,4 +1,5 @@
-/* Lower bounds on the reader's time: work that it can't leave out, in plain C. They are no part of the reader; the driver times them beside it.
+/* What parts of the reader's work take in plain C (GNU C, for the ranges in a table), with nothing proved: bounds to hold the reader's time against. They
+ * are no part of the reader; the driver times them beside it.
  *
  * bound_zeroing writes zeros over the three areas of a source, 77n + 76 bytes, and does nothing else.
  *
@@ -12,6 +13,8 @@
 #include <string.h>
 
 #include "../include/tarbucket.h"
+
+_Static_assert(__BYTE_ORDER__ == __ORDER_LITTLE_ENDIAN__, "a word's first byte is its lowest");
 
 #define CODE(name) TARBUCKET_TOKEN_##name
 

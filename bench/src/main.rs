@@ -202,8 +202,11 @@ fn print_goals(rows: &[Row]) {
     let [scripts, small, large] = rows else { panic!("three sets") };
     let per_byte = |row: &Row| row.sides[0] / row.set.bytes() as f64;
     let met = |yes: bool| if yes { "met" } else { "missed" };
-    let python = scripts.python / scripts.sides[0];
-    println!("\n28 x CPython on the scripts: {python:.1}, {}", met(python >= 28.0));
+    println!();
+    for (row, least) in [(scripts, 33.0), (small, 28.0), (large, 28.0)] {
+        let python = row.python / row.sides[0];
+        println!("{least} x CPython, {}: {python:.1}, {}", row.set.name, met(python >= least));
+    }
     for side in PLAIN {
         let ratio = scripts.sides[0] / scripts.sides[side];
         println!("within 1.5 x of {} on the scripts: {ratio:.2}, {}", SIDES[side].0, met(ratio <= 1.5));

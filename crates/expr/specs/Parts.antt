@@ -1,4 +1,6 @@
--- Parts of the rules that a function has for itself. Only contracts of private functions cite these: each is a part of a rule's body (specs/Tables.antt of pyhyeon).
+-- Parts of the rules that a function has for itself. Only contracts of private functions cite these: each is a part of a rule's body
+-- (specs/Rules.antt and Tables.antt of pyhyeon); but `listedOn` of a Tuple begins at its first comma, and comes to the same there
+-- (`list-parts`, joint/proofs/Chain.antt).
 -- Assumes nothing.
 use Prim.Native.Nat.{ℕ}
 use mathlib.Core.Bool.{Bool, true, false}

@@ -103,7 +103,7 @@ compound =
 abbrev pub level : Rule → List ℕ → Part Action Rule
 level r ops = call r ⨾ many (tok ops ⨾ act mark ⨾ call r ⨾ act binary)
 
--- the operators of C, S and P, and the signs of U
+-- the operators of C, S and P, and the signs of U: "C: S by comparisons. S: P by + -. P: U by * // / %." and "any of not - +"
 abbrev pub comparisons : List ℕ
 comparisons = Less ∷ LessEqual ∷ Greater ∷ GreaterEqual ∷ EqualEqual ∷ NotEqual ∷ []
 

@@ -27,7 +27,7 @@ enum Role {
     Value(NodeNumber),
 }
 
-// What is gathered before a statement: nothing, or a list in the making, by its first node and its last.
+// What is gathered before a statement or a Line: nothing, or a list in the making, by its first node and its last.
 pub enum Gathered {
     Nothing,
     List(NodeNumber, NodeNumber),
