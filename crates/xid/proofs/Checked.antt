@@ -1,0 +1,33 @@
+-- Both tables pass their test, which antt computes over the whole of each.
+-- Assumes nothing.
+use mathlib.Core.Path.{_≡_, refl}
+use Prim.Native.Nat.{ℕ, _*_, _≤_}
+use mathlib.Core.Bool.{true}
+use lib.Dec.{T}
+use lib.ListN.{length}
+use Rattle.xid.specs.Ranges.{holds, apart}
+use Rattle.xid.specs.Tables.{xidStart, xidContinue}
+use Rattle.xid.specs.Classes.{tableOf}
+use Rattle.xid.specs.declared.Class.{Class}
+use Rattle.xid.specs.declared.Class.the-variants.{Start, Continuation}
+use Rattle.xid.proofs.Halving.{covered}
+
+-- "ascending and disjoint"
+pub ascending-and-disjoint : (k : Class) → T (apart 0 (tableOf k))
+unfolding apart xidStart xidContinue
+ascending-and-disjoint Start = tt
+ascending-and-disjoint Continuation = tt
+
+pub start-length : 6 * 222 ≡ length xidStart
+unfolding xidStart
+start-length = refl
+
+pub continue-length : 6 * 259 ≡ length xidContinue
+unfolding xidContinue
+continue-length = refl
+
+-- the syllables of Hangul
+pub syllables : (k : Class) (c : ℕ) → 0xAC00 ≤ c → c ≤ 0xD7A3 → holds (tableOf k) c ≡ true
+unfolding xidStart xidContinue
+syllables Start c p q = covered 0xAC00 0xD7A3 xidStart tt c p q
+syllables Continuation c p q = covered 0xAC00 0xD7A3 xidContinue tt c p q
