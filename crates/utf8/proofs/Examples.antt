@@ -7,6 +7,7 @@ use Rattle.source.specs.Text.{bytes}
 use Rattle.utf8.specs.declared.Utf8.{Utf8}
 use Rattle.utf8.specs.declared.Utf8.the-variants.{WellFormed, IllFormed}
 use Rattle.utf8.specs.Table.{rows, sequenceLength, firstIllFormed, utf8Error}
+use Rattle.utf8.specs.Character.{firstCode}
 
 says : List ℕ → Utf8
 unfolding rows sequenceLength firstIllFormed utf8Error
@@ -48,3 +49,21 @@ cut-off = refl
 too-large : says (0xF4 ∷ 0x8F ∷ 0xBF ∷ 0xBF ∷ 0xF4 ∷ 0x90 ∷ 0x80 ∷ 0x80 ∷ []) ≡ IllFormed 4
 unfolding says
 too-large = refl
+
+-- the code points of these sequences, and of 한, and of what is none
+codes : (firstCode (0x65 ∷ []) ≡ 0x65) × (firstCode (0xC3 ∷ 0xA9 ∷ 0x65 ∷ []) ≡ 0xE9) × (firstCode (0xE2 ∷ 0x82 ∷ 0xAC ∷ []) ≡ 0x20AC)
+unfolding firstCode sequenceLength rows
+codes = (refl, refl, refl)
+
+more-codes : (firstCode (0xF0 ∷ 0x9F ∷ 0x98 ∷ 0x80 ∷ []) ≡ 0x1F600) × (firstCode (0xED ∷ 0x95 ∷ 0x9C ∷ []) ≡ 0xD55C) × (firstCode (0xE2 ∷ 0x82 ∷ []) ≡ 0)
+unfolding firstCode sequenceLength rows
+more-codes = (refl, refl, refl)
+
+-- the first and the last of each length
+first-codes : (firstCode (0xC2 ∷ 0x80 ∷ []) ≡ 0x80) × (firstCode (0xE0 ∷ 0xA0 ∷ 0x80 ∷ []) ≡ 0x800) × (firstCode (0xF0 ∷ 0x90 ∷ 0x80 ∷ 0x80 ∷ []) ≡ 0x10000)
+unfolding firstCode sequenceLength rows
+first-codes = (refl, refl, refl)
+
+last-codes : (firstCode (0xDF ∷ 0xBF ∷ []) ≡ 0x7FF) × (firstCode (0xEF ∷ 0xBF ∷ 0xBF ∷ []) ≡ 0xFFFF) × (firstCode (0xF4 ∷ 0x8F ∷ 0xBF ∷ 0xBF ∷ []) ≡ 0x10FFFF)
+unfolding firstCode sequenceLength rows
+last-codes = (refl, refl, refl)

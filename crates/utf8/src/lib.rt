@@ -1,10 +1,13 @@
-// Whether a slice of bytes is well-formed UTF-8 by table 3-7 of the Unicode Standard, or where its first ill-formed sequence begins.
+// Whether a slice of bytes is well-formed UTF-8 by table 3-7 of the Unicode Standard, or where its first ill-formed sequence begins; and the character at a
+// place.
 ghost use mathlib.Core.Path.{_≡_};
 ghost use mathlib.Core.Bool.{cond};
 ghost use mathlib.Core.List.{[], _∷_};
 ghost use Prim.Native.Nat.{_+_, _<_};
 ghost use lib.ListN.{length, drop};
 ghost use Rattle.utf8.specs.Table.{fits, sequenceLength, utf8Error};
+
+pub mod character; // character.rt: the character at a place, decoded
 
 pub enum Utf8 {
     WellFormed,

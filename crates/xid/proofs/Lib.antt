@@ -1,2 +1,4 @@
 pub mod Halving
 pub mod Checked
+pub mod Ascii
+mod Examples
