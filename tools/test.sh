@@ -1,6 +1,7 @@
 #!/bin/sh
 # Tests the repository's own tools: the map is that of today, the table of the gate's time is right for a stored log, and the makers of the stored cases
-# make them again. Each of these checks is shown to fail, on a copy in which it is not so. It wants Python 3.10 or newer, and nothing else.
+# make them again, as does the maker of the tables of names. Each of these checks is shown to fail, on a copy in which it is not so. It wants Python 3.10 or
+# newer; the tables are made again where the Unicode Character Database is at hand (Debian's package unicode-data, or the folder UNICODE_DATA).
 #
 #     tools/test.sh        in about half a minute
 #     tools/test.sh all    makes the cases of reader_cases again too, which takes as long again
@@ -137,6 +138,27 @@ for crate in leaf_cases scan_cases expr_cases ${1:+reader_cases}; do
 done
 echo x >>"$work/expr_cases/stdin"
 no "a case that is not the stored one" "differ" same_cases expr_cases
+
+# ---- the tables of names, made again
+unicode=${UNICODE_DATA:-/usr/share/unicode}
+make_tables() { # FOLDER NAME
+    python3 tools/xid.py "$1" "$work/$2"
+}
+# The crate has each file that was made.
+same_tables() { # NAME
+    (cd "$work/$1" && find crates/xid -type f) >"$work/made" && [ -s "$work/made" ] || return 1
+    while read -r file; do diff -q "$work/$1/$file" "$file" || return 1; done <"$work/made"
+}
+if [ -r "$unicode/DerivedCoreProperties.txt" ]; then
+    yes "the tables of xid are made" make_tables "$unicode" tables
+    yes "the tables of xid" same_tables tables
+    mkdir "$work/unicode"
+    sed 's/^0376\.\.0377/0376..0378/' "$unicode/DerivedCoreProperties.txt" >"$work/unicode/DerivedCoreProperties.txt"
+    yes "another table is made" make_tables "$work/unicode" other
+    no "a table that is not the stored one" "differ" same_tables other
+else
+    echo "not tried: the tables of xid, since $unicode has no DerivedCoreProperties.txt"
+fi
 
 echo "$passed passed, $failed failed"
 [ "$failed" -eq 0 ]

@@ -2,19 +2,19 @@
 -- around a row decides whether some range holds c (`in-row`, `none`).
 -- Assumes nothing.
 use mathlib.Core.Path.{_≡_, refl, sym, ap, _∙_, subst}
-use mathlib.Core.Bool.{Bool, true, false, _&&_, _||_, or-true}
+use mathlib.Core.Bool.{Bool, true, false, _&&_, _||_, or-true, true≢false}
 use mathlib.Core.List.{List, [], _∷_}
 use Prim.Native.Nat.{ℕ, zero, suc, _+_, _*_, _≤_, _<_, zero-le}
 use native.Mathlib.Nat.{add-zero, le-refl, le-trans, le-of-suc-le-suc, not-suc-le-zero}
 use native.Mathlib.Decide.{decLt}
 use native.Mathlib.Omega.{arith}
-use borrow.Author.Tests.{le-leb, lt-leb}
+use borrow.Author.Tests.{le-leb, lt-leb, leb-true}
 use lib.Dec.{T, leb, leb→le}
 use lib.Ieee.Fits.{and-l, and-r}
 use lib.ListN.{length, getD, take, drop, length-drop}
 use lib.Seq.{getD-drop, getD-take}
 use Rattle.source.specs.Bytes.{between}
-use Rattle.source.proofs.Bools.{and-false}
+use Rattle.source.proofs.Bools.{and-false, and-left, and-right, or-either}
 use Rattle.xid.specs.Ranges.{holds, apart, rowOf}
 
 -- ---- the table's test, as a rule at its places
@@ -183,15 +183,15 @@ module _ (t : List ℕ) (m : ℕ) (row : List ℕ) (e : row ≡ rowOf t m) where
       let h : 5 < 6 = omega arith in
       ap (λ (l : List ℕ). getD l 5 0) e ∙ rw (getD-take, getD-drop)
 
--- ---- one range
+-- ---- a table within another
 
 -- some range of the table holds all from x to y
-abbrev pub covers : ℕ → ℕ → List ℕ → Bool
+abbrev covers : ℕ → ℕ → List ℕ → Bool
 covers x y [] = false
 covers x y (v ∷ []) = false
 covers x y (v ∷ w ∷ r) = (leb v x && leb y w) || covers x y r
 
-pub covered : (x y : ℕ) (t : List ℕ) → T (covers x y t) → (c : ℕ) → x ≤ c → c ≤ y → holds t c ≡ true
+covered : (x y : ℕ) (t : List ℕ) → T (covers x y t) → (c : ℕ) → x ≤ c → c ≤ y → holds t c ≡ true
 unfolding holds
 covered x y [] a c p q = absurd a
 covered x y (v ∷ []) a c p q = absurd a
@@ -201,3 +201,18 @@ covered x y (v ∷ w ∷ r) a c p q = go (leb v x) refl (leb y w) refl a (λ b. 
     go true f true g b k = simp (le-leb v c (le-trans (leb→le v x (subst (λ (z : Bool). T z) (sym f) tt)) p), le-leb c w (le-trans q (leb→le y w (subst (λ (z : Bool). T z) (sym g) tt))))
     go true f false g b k = rw (k b) (or-true (between v w c))
     go false f e g b k = rw (k b) (or-true (between v w c))
+
+-- each range of the first lies in one of the second
+abbrev pub inside : List ℕ → List ℕ → Bool
+inside [] t = true
+inside (x ∷ []) t = true
+inside (x ∷ y ∷ r) t = covers x y t && inside r t
+
+pub held-inside : (u t : List ℕ) (c : ℕ) → T (inside u t) → holds u c ≡ true → holds t c ≡ true
+unfolding holds
+held-inside [] t c a e = absurd (true≢false (sym e))
+held-inside (x ∷ []) t c a e = absurd (true≢false (sym e))
+held-inside (x ∷ y ∷ r) t c a e =
+    or-either (between x y c) (holds r c)
+    (λ b. covered x y t (and-l (covers x y t) (inside r t) a) c (leb-true x c (and-left (leb x c) (leb c y) b)) (leb-true c y (and-right (leb x c) (leb c y) b)))
+    (λ b. held-inside r t c (and-r (covers x y t) (inside r t) a) b) e

@@ -2,8 +2,7 @@
 ghost use mathlib.Core.Path.{_≡_};
 ghost use Prim.Native.Nat.{_*_, _<_};
 ghost use lib.ListN.{length};
-ghost use Rattle.source.specs.Bytes.{between};
-ghost use Rattle.xid.specs.Row.{bounds};
+ghost use Rattle.xid.specs.Row.{bounds, frequent};
 ghost use Rattle.xid.specs.Ranges.{holds, rowOf};
 ghost use Rattle.xid.specs.Classes.{isStart, isContinue, tableOf};
 
@@ -59,18 +58,18 @@ fn held(class: Class, c: u32) -> bool
     false
 }
 
-// Whether c is a syllable of Hangul: these are one range of both classes, which needs no search.
-fn is_syllable(c: u32) -> bool
-    ensures { λ r. ⌜ r ≡ between 0xAC00 0xD7A3 c ⌝ }
+// Whether c is one of the letters that names are expected to have, which need no search.
+fn is_frequent(c: u32) -> bool
+    ensures { λ r. ⌜ r ≡ holds frequent c ⌝ }
 {
-    (0xAC00 <= c) & (c <= 0xD7A3)
+    row::within(Row(0x38E, 0x3A1, 0x3A3, 0x3F5, 0xAC00, 0xD7A3), c)
 }
 
 // Whether c is in XID_Start.
 pub fn is_start(c: u32) -> bool
     ensures { λ r. ⌜ r ≡ isStart c ⌝ }
 {
-    if is_syllable(c) {
+    if is_frequent(c) {
         true
     } else {
         held(Class::Start, c)
@@ -81,7 +80,7 @@ pub fn is_start(c: u32) -> bool
 pub fn is_continue(c: u32) -> bool
     ensures { λ r. ⌜ r ≡ isContinue c ⌝ }
 {
-    if is_syllable(c) {
+    if is_frequent(c) {
         true
     } else {
         held(Class::Continuation, c)
