@@ -11,6 +11,7 @@ import random
 import re
 import struct
 import sys
+import unicodedata
 
 sys.set_int_max_str_digits(0)
 LARGEST_FILE = 65536  # the program reads a file into a buffer of this size
@@ -217,6 +218,34 @@ def utf8_expected(text):
         return str(error.start)
 
 
+# ---- characters: `c HEX` ----
+
+# Of assigned characters these four alone came into XID_Continue later, with Unicode 15.1.
+LATER = {0x200C, 0x200D, 0x30FB, 0xFF65}
+ILL_FORMED = ["c3", "61eda080", "e282", "f4908080", "c3a980", "ed959cff61"]
+
+
+def known(c):
+    """Whether Unicode 3.2 had the character: its classes are then the same in each version from 3.10's on."""
+    return c not in LATER and unicodedata.ucd_3_2_0.category(chr(c)) not in ("Cn", "Co", "Cs")
+
+
+def character_cases():
+    points = [c for c in range(0x110000) if known(c)]
+    some = [c for c in points if c < 0x500] + points[::61] + [0x2118, 0x212E, 0x309B, 0xAC00, 0xD7A3, 0xFB01, 0xFF3F, 0x10300, 0x2A6D6, 0xE0020]
+    texts = ["".join(map(chr, some[i : i + 40])).encode() for i in range(0, len(some), 40)]
+    return texts + [bytes.fromhex(text) for text in ILL_FORMED] + [b""]
+
+
+def character_expected(text):
+    try:
+        whole, end = text.decode("utf-8"), ""
+    except UnicodeDecodeError as error:
+        whole, end = text[: error.start].decode("utf-8"), "none"
+    classes = [(ord(c), "s" * (c != "_" and c.isidentifier()), "c" * ("a" + c).isidentifier()) for c in whole]
+    return "".join("%d%s%s;" % one for one in classes) + end
+
+
 # ---- files ----
 
 
@@ -232,6 +261,7 @@ def main():
         ("tokens", "t", token_cases(), token_expected),
         ("strings", "s", string_cases(), string_expected),
         ("utf8", "u", utf8_cases(), utf8_expected),
+        ("characters", "c", character_cases(), character_expected),
     ]
     stdout = []
     for name, letter, cases, expected in lists:

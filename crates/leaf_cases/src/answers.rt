@@ -7,6 +7,7 @@ use numbers::halves::Halves;
 use numbers::integer::Integer;
 use raw_token::RawToken;
 use utf8::Utf8;
+use utf8::character::Character;
 ghost use Prim.Native.Nat.{_≤_};
 ghost use lib.ListN.{length};
 
@@ -70,5 +71,30 @@ pub fn print_utf8(s: &[u8]) {
         Utf8::IllFormed(at) => {
             io::print_decimal(STDOUT_FILENO, at as u64);
         }
+    }
+}
+
+fn print_character(c: Character) {
+    io::print_decimal(STDOUT_FILENO, c.code as u64);
+    if xid::is_start(c.code) {
+        print(b"s");
+    }
+    if xid::is_continue(c.code) {
+        print(b"c");
+    }
+    print(b";");
+}
+
+pub fn print_characters(s: &[u8]) {
+    let mut at: usize = 0;
+    while at < s.len() {
+        let c = utf8::character::decode(s, at);
+        let len = c.len;
+        if len == 0 {
+            print(b"none");
+            return;
+        }
+        print_character(c);
+        at += len;
     }
 }

@@ -6,10 +6,12 @@
 //     t HEX    a source: the token at each place, up to the end, as code:end, or a dash where none matches
 //     s HEX    what stands between a String's quotes: its decoded bytes and how many they are
 //     u HEX    a text: whether it is well-formed UTF-8, or the place where it is not
+//     c HEX    a text: each character's code point, with s where it is in XID_Start and c where it is in XID_Continue, up to a place with no character
 //
 // docs/CASES.md says how the cases were made.
 mod answers;
 
+use answers::print_characters;
 use answers::print_float;
 use answers::print_int;
 use answers::print_string;
@@ -28,6 +30,7 @@ fn print_bytes_case(letter: u8, hex: &[u8]) {
         b't' => print_tokens(s),
         b's' => print_string(s),
         b'u' => print_utf8(s),
+        b'c' => print_characters(s),
         _ => print(b"no such case"),
     }
 }
