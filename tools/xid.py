@@ -25,7 +25,7 @@ def ranges(lines, wanted):
         if (m := re.match(r"([0-9A-F]+)(?:\.\.([0-9A-F]+))?\s*;\s*(\w+)", line)) and m[3] == wanted:
             found.append((int(m[1], 16), int(m[2] or m[1], 16)))
     found.sort()
-    touching = sum(low == before[1] + 1 for before, low in zip(found, (low for low, _ in found[1:])))
+    touching = sum(one[1] + 1 == other[0] for one, other in zip(found, found[1:]))
     kept = -(len(found) - touching) % WIDTH
     out = []
     for low, high in found:
@@ -48,12 +48,9 @@ def numbers(bounds, parted):
 
 
 def definition(name, says, found):
-    lines = [numbers([bound for row in pair for bound in row], " ∷ ") for pair in zip_pairs(rows(found))]
+    bounds = [bound for pair in found for bound in pair]
+    lines = [numbers(bounds[i : i + 12], " ∷ ") for i in range(0, len(bounds), 12)]
     return "-- %s\nunfoldable pub %s : List ℕ\n%s =\n    %s\n    ∷ []\n" % (says, name, name, "\n    ∷ ".join(lines))
-
-
-def zip_pairs(items):
-    return [items[i : i + 2] for i in range(0, len(items), 2)]
 
 
 def specs(version, tables):

@@ -13,7 +13,6 @@ use Rattle.source.proofs.Bools.{and-left, and-right}
 use Rattle.source.proofs.Lists.{at-cons}
 use Rattle.utf8.specs.Table.{Row, rows, fits, lengthBy, sequenceLength}
 use Rattle.utf8.specs.Character.{codePoint, firstCode}
-use Rattle.utf8.specs.declared.character.Character.{Character}
 
 -- no row is longer than four bytes
 short : List Row → Bool

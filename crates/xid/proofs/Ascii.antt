@@ -1,7 +1,7 @@
 -- Below 128 the classes are those of ASCII, shown by one test at each of the 128 code points: so a byte below 128 needs no table.
 -- Assumes nothing.
-use mathlib.Core.Path.{_≡_, refl, sym}
-use mathlib.Core.Bool.{Bool, true, false, not, _||_}
+use mathlib.Core.Path.{_≡_}
+use mathlib.Core.Bool.{Bool, true, false, _||_}
 use Prim.Native.Nat.{ℕ, _<_, zero-le}
 use lib.Dec.{eqb}
 use borrow.Author.Tests.{not-true}

@@ -30,5 +30,5 @@ continue-length = refl
 -- what needs no search
 pub frequent-held : (k : Class) (c : ℕ) → holds frequent c ≡ true → holds (tableOf k) c ≡ true
 unfolding xidStart xidContinue
-frequent-held Start c e = held-inside frequent xidStart c tt e
-frequent-held Continuation c e = held-inside frequent xidContinue c tt e
+frequent-held Start c e = held-inside frequent xidStart c refl e
+frequent-held Continuation c e = held-inside frequent xidContinue c refl e

@@ -1,7 +1,7 @@
 -- What a search by halving in a table of ranges needs: the table's one test gives the order of its bounds at any two places (`ascend`), and what is known
 -- around a row decides whether some range holds c (`in-row`, `none`).
 -- Assumes nothing.
-use mathlib.Core.Path.{_≡_, refl, sym, ap, _∙_, subst}
+use mathlib.Core.Path.{_≡_, refl, sym, ap, _∙_}
 use mathlib.Core.Bool.{Bool, true, false, _&&_, _||_, or-true, true≢false}
 use mathlib.Core.List.{List, [], _∷_}
 use Prim.Native.Nat.{ℕ, zero, suc, _+_, _*_, _≤_, _<_, zero-le}
@@ -97,7 +97,7 @@ under n (x ∷ y ∷ r) c a h =
     let q = ends n x y r a in
     rw (lt-leb x c (omega arith)) (under (suc y) r c (rest n x y r a) (omega arith))
 
--- the ranges before one that starts at or below c hold no c
+-- c is in none of the ranges before one that starts at or below it
 skip : (n : ℕ) (t : List ℕ) (c m : ℕ) → T (apart n t) → twice m < length t → getD t (twice m) 0 ≤ c → holds t c ≡ holds (drop (twice m) t) c
 unfolding holds
 skip n t c zero a h p = refl
@@ -107,7 +107,7 @@ skip n (x ∷ y ∷ r) c (suc m) a h p =
     let k : suc y ≤ getD r (twice m) 0 = from (suc y) r (rest n x y r a) (twice m) (le-of-suc-le-suc (le-of-suc-le-suc h)) in
     rw (lt-leb c y (omega arith), and-false (leb x c)) (skip (suc y) r c m (rest n x y r a) (le-of-suc-le-suc (le-of-suc-le-suc h)) p)
 
--- and so do those behind one that ends at or above it
+-- nor in those behind one that ends at or above it
 stop : (n : ℕ) (t : List ℕ) (c m : ℕ) → T (apart n t) → suc (twice m) < length t → c ≤ getD t (suc (twice m)) 0 → holds t c ≡ holds (take (twice (suc m)) t) c
 unfolding holds
 stop n [] c m a h p = absurd (not-suc-le-zero h)
@@ -116,6 +116,7 @@ stop n (x ∷ y ∷ r) c zero a h p = rw (under (suc y) r c (rest n x y r a) (om
 stop n (x ∷ y ∷ r) c (suc m) a h p =
     rw (stop (suc y) r c m (rest n x y r a) (le-of-suc-le-suc (le-of-suc-le-suc h)) p)
 
+-- the test of what is left behind some ranges
 apart-drop : (n : ℕ) (t : List ℕ) (m : ℕ) → T (apart n t) → twice m < length t → T (apart (getD t (twice m) 0) (drop (twice m) t))
 unfolding apart
 apart-drop n [] zero a h = tt
@@ -191,16 +192,14 @@ covers x y [] = false
 covers x y (v ∷ []) = false
 covers x y (v ∷ w ∷ r) = (leb v x && leb y w) || covers x y r
 
-covered : (x y : ℕ) (t : List ℕ) → T (covers x y t) → (c : ℕ) → x ≤ c → c ≤ y → holds t c ≡ true
+covered : (x y : ℕ) (t : List ℕ) → covers x y t ≡ true → (c : ℕ) → x ≤ c → c ≤ y → holds t c ≡ true
 unfolding holds
-covered x y [] a c p q = absurd a
-covered x y (v ∷ []) a c p q = absurd a
-covered x y (v ∷ w ∷ r) a c p q = go (leb v x) refl (leb y w) refl a (λ b. covered x y r b c p q)
-  where
-    go : (d : Bool) → leb v x ≡ d → (e : Bool) → leb y w ≡ e → T ((d && e) || covers x y r) → (T (covers x y r) → holds r c ≡ true) → (between v w c || holds r c) ≡ true
-    go true f true g b k = simp (le-leb v c (le-trans (leb→le v x (subst (λ (z : Bool). T z) (sym f) tt)) p), le-leb c w (le-trans q (leb→le y w (subst (λ (z : Bool). T z) (sym g) tt))))
-    go true f false g b k = rw (k b) (or-true (between v w c))
-    go false f e g b k = rw (k b) (or-true (between v w c))
+covered x y [] a c p q = absurd (true≢false (sym a))
+covered x y (v ∷ []) a c p q = absurd (true≢false (sym a))
+covered x y (v ∷ w ∷ r) a c p q =
+    or-either (leb v x && leb y w) (covers x y r)
+    (λ b. simp (le-leb v c (le-trans (leb-true v x (and-left (leb v x) (leb y w) b)) p), le-leb c w (le-trans q (leb-true y w (and-right (leb v x) (leb y w) b)))))
+    (λ b. rw (covered x y r b c p q) (or-true (between v w c))) a
 
 -- each range of the first lies in one of the second
 abbrev pub inside : List ℕ → List ℕ → Bool
@@ -208,11 +207,11 @@ inside [] t = true
 inside (x ∷ []) t = true
 inside (x ∷ y ∷ r) t = covers x y t && inside r t
 
-pub held-inside : (u t : List ℕ) (c : ℕ) → T (inside u t) → holds u c ≡ true → holds t c ≡ true
+pub held-inside : (u t : List ℕ) (c : ℕ) → inside u t ≡ true → holds u c ≡ true → holds t c ≡ true
 unfolding holds
 held-inside [] t c a e = absurd (true≢false (sym e))
 held-inside (x ∷ []) t c a e = absurd (true≢false (sym e))
 held-inside (x ∷ y ∷ r) t c a e =
     or-either (between x y c) (holds r c)
-    (λ b. covered x y t (and-l (covers x y t) (inside r t) a) c (leb-true x c (and-left (leb x c) (leb c y) b)) (leb-true c y (and-right (leb x c) (leb c y) b)))
-    (λ b. held-inside r t c (and-r (covers x y t) (inside r t) a) b) e
+    (λ b. covered x y t (and-left (covers x y t) (inside r t) a) c (leb-true x c (and-left (leb x c) (leb c y) b)) (leb-true c y (and-right (leb x c) (leb c y) b)))
+    (λ b. held-inside r t c (and-right (covers x y t) (inside r t) a) b) e
