@@ -220,13 +220,14 @@ def utf8_expected(text):
 
 # ---- characters: `c HEX` ----
 
-# Of assigned characters these four alone came into XID_Continue later, with Unicode 15.1.
+# A character stays in XID_Start and in XID_Continue once it is there, but one that was in neither may come into them later. From Unicode 14.0 (Python 3.11) to
+# 15.1 (Python 3.13) these four alone did, of those that were assigned (docs/DIFFERENCES.md); a later version may want more of them here.
 LATER = {0x200C, 0x200D, 0x30FB, 0xFF65}
 ILL_FORMED = ["c3", "61eda080", "e282", "f4908080", "c3a980", "ed959cff61"]
 
 
 def known(c):
-    """Whether Unicode 3.2 had the character: its classes are then the same in each version from 3.10's on."""
+    """Whether Unicode 3.2 had the character, and it is none of those: its classes are then the same in these versions."""
     return c not in LATER and unicodedata.ucd_3_2_0.category(chr(c)) not in ("Cn", "Co", "Cs")
 
 
