@@ -19,11 +19,19 @@ CLASSES = (("XID_Start", "xidStart", "start"), ("XID_Continue", "xidContinue", "
 
 
 def ranges(lines, wanted):
-    """The ranges that have the property, ascending, those that touch joined as far as their number stays a multiple of WIDTH."""
-    found = []
+    """The ranges that have the property, ascending, those that touch joined as far as their number stays a multiple of WIDTH. They have as many code points as
+    the file says behind them."""
+    found, total, last = [], None, None
     for line in lines:
-        if (m := re.match(r"([0-9A-F]+)(?:\.\.([0-9A-F]+))?\s*;\s*(\w+)", line)) and m[3] == wanted:
-            found.append((int(m[1], 16), int(m[2] or m[1], 16)))
+        if m := re.match(r"([0-9A-F]+)(?:\.\.([0-9A-F]+))?\s*;\s*(\w+)", line):
+            last = m[3]
+            if last == wanted:
+                found.append((int(m[1], 16), int(m[2] or m[1], 16)))
+        elif last == wanted and (m := re.match(r"# Total code points: ([0-9]+)", line)):
+            total = int(m[1])
+    size = sum(high - low + 1 for low, high in found)
+    if size != total:
+        sys.exit("tools/xid.py: %s has %d code points, and the file says %s" % (wanted, size, total))
     found.sort()
     touching = sum(one[1] + 1 == other[0] for one, other in zip(found, found[1:]))
     kept = -(len(found) - touching) % WIDTH

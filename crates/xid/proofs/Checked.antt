@@ -1,4 +1,4 @@
--- Both tables pass their test, which antt computes over the whole of each.
+-- Both tables pass their test and have as many code points as Unicode says, which antt computes over the whole of each.
 -- Assumes nothing.
 use mathlib.Core.Path.{_≡_, refl}
 use Prim.Native.Nat.{ℕ, _*_}
@@ -6,7 +6,7 @@ use mathlib.Core.Bool.{true}
 use lib.Dec.{T}
 use lib.ListN.{length}
 use Rattle.xid.specs.Row.{frequent}
-use Rattle.xid.specs.Ranges.{holds, apart}
+use Rattle.xid.specs.Ranges.{holds, apart, size}
 use Rattle.xid.specs.Tables.{xidStart, xidContinue}
 use Rattle.xid.specs.Classes.{tableOf}
 use Rattle.xid.specs.declared.Class.{Class}
@@ -18,6 +18,16 @@ pub ascending-and-disjoint : (k : Class) → T (apart 0 (tableOf k))
 unfolding apart xidStart xidContinue
 ascending-and-disjoint Start = tt
 ascending-and-disjoint Continuation = tt
+
+-- "# Total code points: 136322" (DerivedCoreProperties.txt, below XID_Start)
+pub start-size : size xidStart ≡ 136322
+unfolding size xidStart
+start-size = refl
+
+-- "# Total code points: 139463" (there, below XID_Continue)
+pub continue-size : size xidContinue ≡ 139463
+unfolding size xidContinue
+continue-size = refl
 
 pub start-length : 6 * 222 ≡ length xidStart
 unfolding xidStart

@@ -1,6 +1,6 @@
 -- A table of ranges is the list of their bounds: first, last, first, last.
 -- Assumes nothing.
-use Prim.Native.Nat.{ℕ, suc, _*_}
+use Prim.Native.Nat.{ℕ, suc, _+_, _-_, _*_}
 use mathlib.Core.Bool.{Bool, true, false, _&&_, _||_}
 use mathlib.Core.List.{List, [], _∷_}
 use lib.Dec.{leb}
@@ -19,6 +19,13 @@ unfoldable pub apart : ℕ → List ℕ → Bool
 apart n [] = true
 apart n (x ∷ []) = false
 apart n (x ∷ y ∷ r) = leb n x && (leb x y && apart (suc y) r)
+
+-- How many code points the ranges of a table hold, where they are apart. It is what the line "# Total code points:" at the end of each class in
+-- DerivedCoreProperties.txt says (proofs/Checked.antt)
+unfoldable pub size : List ℕ → ℕ
+size [] = 0
+size (x ∷ []) = 0
+size (x ∷ y ∷ r) = suc y - x + size r
 
 -- The bounds of the ranges 3 i to 3 i + 2. Only contracts of private functions cite it
 abbrev pub rowOf : List ℕ → ℕ → List ℕ
