@@ -1,7 +1,8 @@
 #!/bin/sh
 # Tests the repository's own tools: the map is that of today, the table of the gate's time is right for a stored log, and the makers of the stored cases
 # make them again, as does the maker of the tables of names. Each of these checks is shown to fail, on a copy in which it is not so. It wants Python 3.10 or
-# newer; the tables are made again where the Unicode Character Database is at hand (Debian's package unicode-data, or the folder UNICODE_DATA).
+# newer; the tables are made again where the Unicode Character Database of their version is at hand (Debian's package unicode-data, or the folder
+# UNICODE_DATA).
 #
 #     tools/test.sh        in about half a minute
 #     tools/test.sh all    makes the cases of reader_cases again too, which takes as long again
@@ -149,18 +150,22 @@ same_tables() { # NAME
     (cd "$work/$1" && find crates/xid -type f) >"$work/made" && [ -s "$work/made" ] || return 1
     while read -r file; do diff -q "$work/$1/$file" "$file" || return 1; done <"$work/made"
 }
-if [ -r "$unicode/DerivedCoreProperties.txt" ]; then
+properties=$unicode/DerivedCoreProperties.txt
+version=$(sed -n '1s/.*Unicode Character Database, version \([0-9.]*[0-9]\)).*/\1/p' crates/xid/specs/Tables.antt)
+if ! [ -r "$properties" ]; then
+    echo "not tried: the tables of xid, since $unicode has no DerivedCoreProperties.txt"
+elif ! head -n 1 "$properties" | grep -qxF "# DerivedCoreProperties-$version.txt"; then
+    echo "not tried: the tables of xid, since DerivedCoreProperties.txt of $unicode is not of Unicode $version"
+else
     yes "the tables of xid are made" make_tables "$unicode" tables
     yes "the tables of xid" same_tables tables
     mkdir "$work/unicode"
-    sed 's/^0376\.\.0377/0376..0378/' "$unicode/DerivedCoreProperties.txt" >"$work/unicode/DerivedCoreProperties.txt"
+    sed 's/^0376\.\.0377/0376..0378/' "$properties" >"$work/unicode/DerivedCoreProperties.txt"
     no "a code point more than the file says" "XID_Start has 136323 code points, and the file says 136322" make_tables "$work/unicode" more
-    sed 's/^0376\.\.0377/0376..0378/; s/^\(# Total code points: \)136322$/\1136323/; s/^\(# Total code points: \)139463$/\1139464/' \
-        "$unicode/DerivedCoreProperties.txt" >"$work/unicode/DerivedCoreProperties.txt"
+    sed 's/^0376\.\.0377/0376..0378/; s/^\(# Total code points: \)136322$/\1136323/; s/^\(# Total code points: \)139463$/\1139464/' "$properties" \
+        >"$work/unicode/DerivedCoreProperties.txt"
     yes "another table is made" make_tables "$work/unicode" other
     no "a table that is not the stored one" "differ" same_tables other
-else
-    echo "not tried: the tables of xid, since $unicode has no DerivedCoreProperties.txt"
 fi
 
 echo "$passed passed, $failed failed"
