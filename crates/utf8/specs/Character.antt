@@ -8,7 +8,7 @@ use Rattle.utf8.specs.Table.{sequenceLength}
 use Rattle.utf8.specs.declared.character.Character.{Character}
 
 -- table 3-6, row by row: 0xxxxxxx; 110yyyyy 10xxxxxx; 1110zzzz 10yyyyyy 10xxxxxx; 11110uuu 10uuzzzz 10yyyyyy 10xxxxxx. The bits behind those marks, joined.
--- No bytes are no character, and have the number 0
+-- No bytes are no character, and have the number 0; no sequence is longer than four, so the last clause's l is empty
 abbrev pub codePoint : List ℕ → ℕ
 codePoint [] = 0
 codePoint (a ∷ []) = a
@@ -24,4 +24,5 @@ firstCode l = codePoint (take (sequenceLength l) l)
 pub record Decoded (s : List ℕ) (at : ℕ) (r : Character) : Type 0 where
   pub code-is : r .code ≡ firstCode (drop at s)
   pub len-is : r .len ≡ sequenceLength (drop at s)
+  -- (follows; for callers)
   pub within : r .len ≤ length s - at

@@ -8,17 +8,17 @@ use Rattle.xid.specs.Ranges.{holds}
 use Rattle.xid.specs.Tables.{xidStart, xidContinue}
 use Rattle.xid.specs.Classes.{isStart, isContinue}
 
--- each begins a name and may continue one
+-- each is in XID_Start and in XID_Continue
 begins : List ℕ → Bool
 begins [] = true
 begins (c ∷ l) = isStart c && (isContinue c && begins l)
 
--- each continues a name and begins none
+-- each is in XID_Continue and not in XID_Start
 continues : List ℕ → Bool
 continues [] = true
 continues (c ∷ l) = not (isStart c) && (isContinue c && continues l)
 
--- each does neither
+-- each is in neither
 neither : List ℕ → Bool
 neither [] = true
 neither (c ∷ l) = not (isStart c) && (not (isContinue c) && neither l)

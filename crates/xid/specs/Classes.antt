@@ -9,9 +9,11 @@ use Rattle.xid.specs.Ranges.{holds}
 use Rattle.xid.specs.declared.Class.{Class}
 use Rattle.xid.specs.declared.Class.the-variants.{Start, Continuation}
 
+-- c is in XID_Start (DerivedCoreProperties.txt)
 abbrev pub isStart : ℕ → Bool
 isStart c = holds xidStart c
 
+-- c is in XID_Continue (there)
 abbrev pub isContinue : ℕ → Bool
 isContinue c = holds xidContinue c
 
