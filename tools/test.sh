@@ -4,7 +4,7 @@
 # newer; the tables are made again where the Unicode Character Database of their version is at hand (Debian's package unicode-data, or the folder
 # UNICODE_DATA).
 #
-#     tools/test.sh        in about half a minute
+#     tools/test.sh        in about a minute
 #     tools/test.sh all    makes the cases of reader_cases again too, which takes as long again
 set -u
 cd "$(dirname "$0")/.." || exit 2
