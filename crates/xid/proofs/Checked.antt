@@ -6,7 +6,7 @@ use mathlib.Core.Bool.{true}
 use lib.Dec.{T}
 use lib.ListN.{length}
 use Rattle.xid.specs.Row.{frequent}
-use Rattle.xid.specs.Ranges.{holds, apart, size}
+use Rattle.xid.specs.Ranges.{holds, apart, size, twiceSum}
 use Rattle.xid.specs.Tables.{xidStart, xidContinue}
 use Rattle.xid.specs.Classes.{tableOf}
 use Rattle.xid.specs.declared.Class.{Class}
@@ -28,6 +28,16 @@ start-size = refl
 pub continue-size : size xidContinue ≡ 139463
 unfolding size xidContinue
 continue-size = refl
+
+-- the code points c for which CPython 3.12 says `chr(c).isidentifier()`, but for the underscore
+pub start-sum : twiceSum xidStart ≡ 2 * 14785822450
+unfolding twiceSum xidStart
+start-sum = refl
+
+-- and those for which it says `("a" + chr(c)).isidentifier()`
+pub continue-sum : twiceSum xidContinue ≡ 2 * 15131785619
+unfolding twiceSum xidContinue
+continue-sum = refl
 
 pub start-length : 6 * 222 ≡ length xidStart
 unfolding xidStart

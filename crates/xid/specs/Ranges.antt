@@ -27,6 +27,13 @@ size [] = 0
 size (x ∷ []) = 0
 size (x ∷ y ∷ r) = suc y - x + size r
 
+-- Twice the sum of those code points, so that two bounds that are wrong by opposite amounts are seen too. The file has no such line: the sums are those
+-- of CPython 3.12, whose `str.isidentifier` is of the same version of Unicode (proofs/Checked.antt)
+unfoldable pub twiceSum : List ℕ → ℕ
+twiceSum [] = 0
+twiceSum (x ∷ []) = 0
+twiceSum (x ∷ y ∷ r) = (x + y) * (suc y - x) + twiceSum r
+
 -- The bounds of the ranges 3 i to 3 i + 2. Only contracts of private functions cite it
 abbrev pub rowOf : List ℕ → ℕ → List ℕ
 rowOf t i = take 6 (drop (6 * i) t)
