@@ -13,6 +13,7 @@ use Rattle.source.proofs.Bools.{and-left, and-right}
 use Rattle.source.proofs.Lists.{at-cons}
 use Rattle.utf8.specs.Table.{Row, rows, fits, lengthBy, sequenceLength}
 use Rattle.utf8.specs.Character.{codePoint, firstCode}
+use Rattle.utf8.proofs.Rows.{low-sequence}
 
 -- no row is longer than four bytes
 short : List Row → Bool
@@ -32,6 +33,11 @@ length-short (row ∷ more) l h =
 pub at-most-four : (l : List ℕ) → sequenceLength l ≤ 4
 unfolding sequenceLength rows short
 at-most-four l = length-short rows l refl
+
+-- a byte below 128 is its own code point
+pub low-code : (b : ℕ) (l : List ℕ) → b < 128 → firstCode (b ∷ l) ≡ b
+unfolding firstCode
+low-code b l h = rw (low-sequence b l h)
 
 -- the first bytes at a place
 module _ (s : List ℕ) (i : ℕ) where

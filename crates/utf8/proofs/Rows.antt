@@ -9,7 +9,7 @@ use native.Mathlib.Nat.{add-assoc}
 use native.Mathlib.Omega.{arith}
 use lib.ListN.{length, getD, drop, length-drop, List·getD-eq-default}
 use lib.Seq.{drop-drop}
-use borrow.Author.Tests.{lt-leb, not-true}
+use borrow.Author.Tests.{lt-leb, le-leb, not-true}
 use Rattle.source.specs.Bytes.{between}
 use Rattle.source.proofs.Bools.{and-left, and-right, and-true, same}
 use Rattle.source.proofs.Lists.{at-cons, past, place}
@@ -90,6 +90,14 @@ module _ (s : List ℕ) (i k : ℕ) (within : i < length s) where
 
   pub no-row : keep rows k ≡ [] → alike rows (getD s i 0) k ≡ true → sequenceLength (drop i s) ≡ 0
   no-row e a = by-byte [] a e
+
+-- a byte below 128 is a sequence
+pub low-sequence : (b : ℕ) (l : List ℕ) → b < 128 → sequenceLength (b ∷ l) ≡ 1
+unfolding sequenceLength rows
+low-sequence b l h = rw (le-leb 0 b zero-le, le-leb b 127 (omega arith))
+
+pub low-at : (s : List ℕ) (i : ℕ) → i < length s → getD s i 0 < 128 → sequenceLength (drop i s) ≡ 1
+low-at s i h b = ap sequenceLength (at-cons s i h) ∙ low-sequence (getD s i 0) (drop (i + 1) s) b
 
 -- as much fuel as there are bytes is enough: any more changes nothing
 pub enough : (f g i : ℕ) (l : List ℕ) → length l ≤ f → length l ≤ g → firstIllFormed f i l ≡ firstIllFormed g i l

@@ -72,17 +72,21 @@ fn sequence(s: &[u8], i: usize) -> usize
     }
 }
 
-// Well formed, or the first byte of the first ill-formed sequence.
+// Well formed, or the first byte of the first ill-formed sequence. A byte below 128 is a sequence.
 pub fn utf8_error(s: &[u8]) -> Utf8
     ensures { λ r. ⌜ r ≡ utf8Error (now (s .entry)) ⌝ }
 {
     let mut i = 0;
     while i < s.len() {
-        let n = sequence(s, i);
-        if n == 0 {
-            return Utf8::IllFormed(i);
+        if s[i] < 0x80 {
+            i += 1;
+        } else {
+            let n = sequence(s, i);
+            if n == 0 {
+                return Utf8::IllFormed(i);
+            }
+            i += n;
         }
-        i += n;
     }
     Utf8::WellFormed
 }
