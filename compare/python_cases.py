@@ -1,7 +1,7 @@
 """The fixed sample that `rt check python_cases` replays: its data files, `args`, and `stdout` with what CPython says of each source."""
 import os
 
-from python_rows import BINARY, nested, systematic
+from python_rows import BINARY, nested, systematic, wide
 from python_sources import Source
 from python_tree import KINDS, NONE, Tree
 
@@ -18,9 +18,9 @@ def rows():
 
 def chosen():
     """The sources by file."""
-    files = {"rows": rows(), "nested": [text for text in dict.fromkeys(nested()) if len(text) <= LONGEST][::3]}
-    known = set(files["rows"] + files["nested"])
-    number, made, file, room = 0, len(known), "", 0
+    files = {"rows": rows(), "nested": [text for text in dict.fromkeys(nested()) if len(text) <= LONGEST][::3], "names": list(wide())[::3]}
+    known = {text for texts in files.values() for text in texts}
+    number, made, file, room, random = 0, len(known), "", 0, 0
     while made < CASES:
         text = Source(f"cases.{number}", (1, 2, 3)[number % 3]).text
         number += 1
@@ -28,7 +28,8 @@ def chosen():
         if size > LONGEST or size < 12 or text in known:
             continue
         if room < 2 * size + 1:
-            file, room = f"random{len(files) - 1}", FILE_BYTES
+            random += 1
+            file, room = f"random{random}", FILE_BYTES
             files[file] = []
         files[file].append(text)
         known.add(text)

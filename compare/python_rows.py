@@ -1,8 +1,14 @@
-"""The sources that are not left to chance: every row of two and three operators, and each sort of nesting."""
+"""The sources that are not left to chance: every row of two and three operators, each sort of nesting, and names in other scripts."""
 
 COMPARISONS = "== != < <= > >=".split()
 TERMS, FACTORS = "+ -".split(), "* / // %".split()
 BINARY = FACTORS + TERMS + COMPARISONS + ["and", "or"]
+# Names with characters over 127. All are of Unicode 3.2, so that every CPython from 3.10 on knows them. CPython's parser normalises a name to NFKC, which
+# changes some of these, to each other's spelling too or to a keyword's; the comparison is of their bytes in the source.
+WIDE = (
+    "é aé éa _é ñ1 ifé continueé continuée tt\xb7t α Ελλάδα αίθουσα_1 имя 한국 전시실1 名前 قاعة م٣ हॉल नाम ห้อง กำ שם "
+    "e\u0301 \u1112\u1161\u11ab \ufb01 fi \uff49\uff46 \uff54 \uff41\uff11 \u2118 \u212a \u2126 \xb5 \u2160 l\xb7l a\u0387 x\u203fy \U00010300 \U0001d431\U0001d7d9 \U0002a6d6"
+).split()
 
 
 def systematic():
@@ -46,11 +52,22 @@ def nest(frames, depth):
     return text + "\n"
 
 
+def wide():
+    """Each name in another script as a variable, a target, an attribute, a parameter and the name of a function, a method, a class and a loop."""
+    forms = [
+        "{0} = {1}\n", "{0}.{1}({0})[{1}] # {0}\n", "def {0}({1}, {0}):\n  return {1}\n", "class {0}:\n  def {1}({0}): {1}\n", "for {0} in {1}: {0};{1}\n",
+        "f(lambda {0}: {0} < {1} < 1, '{0}')\n", "{0}-{1}*{0}//a\n", "if {0}:\n  {1}\nelif{{{1}:{0}}}: {0}\nelse:\n  ({1}).{0}=-{0}\n",
+    ]
+    for i, name in enumerate(WIDE):
+        for k, form in enumerate(forms):
+            yield form.format(name, WIDE[(i + k + 1) % len(WIDE)])
+
+
 def long_ones():
-    """Sources of 65,536 bytes, the most that 01 takes: lines, a list, a string, a call, a chain and a row of `or`."""
+    """Sources of 65,536 bytes, the most that 01 takes: lines, a list, a string, a call, a chain, a row of `or`, and names in other scripts."""
     for first, part, last in (
         ("", "a = b[-1] + 2.5 # x\n", ""), ("[", "a,", "]"), ("'", "\\n\\d\"é", "'"), ("f(", "(a), ", ")"), ("a", " < a", ""), ("a", " or a", ""),
-        ("", "if a:\n  b\nelif c: d; e\nelse:\n  pass\n", ""),
+        ("", "if a:\n  b\nelif c: d; e\nelse:\n  pass\n", ""), ("", "é.한국 = ﬁ(x·1)\n", ""),
     ):
         room = 65536 - len((first + last).encode()) - 1
         text = first + part * (room // len(part.encode())) + last

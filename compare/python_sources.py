@@ -7,22 +7,22 @@ Python refuses, empty bodies, blank lines where they are refused, classes of oth
 """
 import random
 
-from python_rows import COMPARISONS, FACTORS, TERMS, long_ones, nested, systematic
+from python_rows import COMPARISONS, FACTORS, TERMS, WIDE, long_ones, nested, systematic, wide
 
 NAMES = (
     "a b c x y i n t t self _ __init__ total node_5 e5 E r1 If classes not_ nota true none None_ print match case type or_else "
     "distance_to_E aVeryLongNameWithManyLetters_and_1234567890"
-).split()
+).split() + WIDE
 ATOMS = (["name"] * 10 + ["int"] * 5 + ["float"] * 2 + ["string"] * 4 + ["constant"] * 2)
 GROUPS = ["paren"] * 4 + ["tuple", "list", "dict", "set"]
 ESCAPES = ["\\n", "\\t", "\\r", "\\\\", "\\'", '\\"']
 # Escapes that neither side knows: both keep the backslash.
 KEPT = ["\\" + c for c in "cdeghijklmopqswyzABCDEFGHIJKLMOPQRSTVWXYZ .,;:!?#$%&()*+-/<=>@[]^_`{|}~89é"]
-PIECES = list("abc XYZ 019_#;:,.()[]{}=+-*/<>!?@$&|~^`\t%") + ["é", "한", "🙂", "ß", "\x7f", "  ", "if", "# no comment"]
+PIECES = list("abc XYZ 019_#;:,.()[]{}=+-*/<>!?@$&|~^`\t%") + ["é", "한", "🙂", "ß", "\xb7", "\u0301", "\u20ac", "\u2028", "\ufeff", "\x7f", "  ", "if", "# no comment"]
 
 
 def wordlike(character):
-    return character == "_" or character.isalnum()
+    return ("a" + character).isidentifier()
 
 
 def must_part(left, right):
@@ -272,7 +272,7 @@ class Source:
 def sources(count, seed):
     """Those of python_rows.py, and then random ones."""
     made = 0
-    for text in [*systematic(), *nested(), *long_ones()]:
+    for text in [*systematic(), *nested(), *wide(), *long_ones()]:
         if made < count:
             yield text
             made += 1

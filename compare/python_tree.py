@@ -8,13 +8,19 @@ operators, the order "a node is written when its last part is read", and these s
 - "A chain `a<b<c` is And(a<b, b<c), the middle node referred to twice"; "All group left"
 - "Int: optional sign, digits": a sign that touches digits is the Int's own
 
+Names are places in the source. CPython's nodes have them normalised to NFKC, which 02 departs from (change 1), so a name's bytes are taken from the source at
+the node's place, and only asked to normalise to what the node has. The `tokenize` of Python 3.10 and 3.11 does not know all characters of names, so it is given
+the source with a letter for each character over 127; `ast` reads the source as it is, and each of its places must be that of a token.
+
 It shares nothing with tools/reference and knows no other departure of 01: `python_sources.py` writes none.
 """
 import ast
 import collections
 import io
+import re
 import struct
 import tokenize
+import unicodedata
 import warnings
 
 NONE = 4294967295
@@ -46,7 +52,8 @@ class Tree:
         self.begins = [0]
         for line in self.lines:
             self.begins.append(self.begins[-1] + len(line.encode()))
-        self.size = len(source.encode())
+        self.bytes = source.encode()
+        self.size = len(self.bytes)
         self.records, self.text, self.noted = [], b"", collections.Counter()
         with warnings.catch_warnings():
             warnings.simplefilter("ignore")
@@ -58,7 +65,7 @@ class Tree:
     def read_tokens(self, source):
         self.tokens, self.first, self.last, self.closer, self.count = [], {}, {}, {}, 0
         opened = []
-        for token in tokenize.generate_tokens(io.StringIO(source).readline):
+        for token in tokenize.generate_tokens(io.StringIO(re.sub(r"[^\0-\x7f]", "x", source)).readline):
             self.noted["comments"] += token.type == tokenize.COMMENT
             if token.type == tokenize.COMMENT or not (token.string or token.type == tokenize.DEDENT):
                 continue  # without text: the end, and a Newline that only CPython implies
@@ -91,8 +98,14 @@ class Tree:
     def word(self, at):
         return self.tokens[at].word if at < len(self.tokens) else None
 
-    def name(self, at):
-        return self.tokens[at].start, self.tokens[at].end
+    def name(self, at, given):
+        """Start and end of a name in the source; `given` is what CPython's node has for it."""
+        start, end = self.tokens[at].start, self.tokens[at].end
+        spelt = self.bytes[start:end].decode()
+        assert unicodedata.normalize("NFKC", spelt) == given, (spelt, given)
+        self.noted["names with characters over 127"] += not spelt.isascii()
+        self.noted["names that NFKC changes"] += spelt != given
+        return start, end
 
     def node(self, kind, start, end, *fields):
         self.records.append([KIND[kind], start, end, NONE, *fields, *[0] * (4 - len(fields))])
@@ -126,7 +139,7 @@ class Tree:
     def names(self, arguments):
         numbers = []
         for argument in arguments.args:
-            start, end = self.name(self.range_of(argument)[0])
+            start, end = self.name(self.range_of(argument)[0], argument.arg)
             numbers.append(self.node("Name", start, end, start, end))
         return self.chain(numbers)
 
@@ -152,7 +165,7 @@ class Tree:
         return self.node("Int", 0, 0, *struct.unpack("<II", struct.pack("<q", value)))
 
     def read_Name(self, node, i, j):
-        return self.node("Variable", 0, 0, *self.name(i))
+        return self.node("Variable", 0, 0, *self.name(i, node.id))
 
     def read_UnaryOp(self, node, i, j):
         operand = node.operand
@@ -189,7 +202,7 @@ class Tree:
         return self.node("Call", 0, 0, function, self.listed(node.args, opening + 1, j - 1))
 
     def read_Attribute(self, node, i, j):
-        return self.node("Attribute", 0, 0, self.expression(node.value, i, j), *self.name(j))
+        return self.node("Attribute", 0, 0, self.expression(node.value, i, j), *self.name(j, node.attr))
 
     def read_Subscript(self, node, i, j):
         value = self.expression(node.value, i, j)
@@ -279,7 +292,7 @@ class Tree:
         return self.node("While", start, end, condition, first), at
 
     def read_For(self, node, i, start):
-        target = self.name(self.range_of(node.target)[0])
+        target = self.name(self.range_of(node.target)[0], node.target.id)
         over = self.expression(node.iter, i + 3, len(self.tokens))
         first, at, end = self.block(node.body)
         return self.node("For", start, end, *target, over, first), at
@@ -287,7 +300,7 @@ class Tree:
     def read_FunctionDef(self, node, i, start, kind="Def"):
         names = self.names(node.args)
         first, at, end = self.block(node.body)
-        return self.node(kind, start, end, *self.name(i + 1), names, first), at
+        return self.node(kind, start, end, *self.name(i + 1, node.name), names, first), at
 
     def read_ClassDef(self, node, i, start):
         methods, at = [], None
@@ -296,7 +309,7 @@ class Tree:
             number, at = self.read_FunctionDef(method, begin, self.tokens[begin].start, "Method")
             methods.append(number)
         assert self.word(at) == "DEDENT"
-        return self.node("Class", start, self.tokens[at].end, *self.name(i + 1), self.chain(methods)), at + 1
+        return self.node("Class", start, self.tokens[at].end, *self.name(i + 1, node.name), self.chain(methods)), at + 1
 
 
 COMPOUND = ("If", "While", "For", "FunctionDef", "ClassDef")

@@ -3,7 +3,7 @@
 
     python3 tools/expr_cases.py crates/expr_cases
 
-Every expected line is made by tools/reference: scan.py, and the method t of descent.py on its tokens. Both were written from document 01 alone.
+Every expected line is made by tools/reference: scan.py, and the method t of descent.py on its tokens. Both were written from documents 01 and 02 alone.
 Nothing is taken from what the program prints.
 """
 import os
@@ -70,8 +70,16 @@ a, b or  a, [  a, b, (  a, b.  a, not  a().  a[b](
 [\n\x20\x20a]  (a\n)  f(\na)  {a:\nb}  a +\nb  lambda:\na  not\na
 """
 
+# Names in any script: as operands, attributes, parameters; `t` with a character more is no `t`.
+NAMES = r"""
+\xe9  a\xe9  \u2118  \ufb01 + fi  \uff49\uff46  e\u0301  \u0e01\u0e33[\u0e01]  \xe9.\xe9  \xe9.a\xb7b  \xe9(\xe9, \xe9)  \xe9[\xe9]  [\xe9, \ud55c]  {\xe9: \u03b1}  t{\xe9}  \u03b1 < \u03b2 < \u03b3
+lambda \xe9: \xe9  lambda \xe9, \ud55c,: \xe9 + \ud55c  -\xe9  not \xe9  not\xe9  \xe9or \xe9  1.\xe9  1 .\xe9  \xe9, \xe9  \xe9 if  (\U00010300)  \U00010300.\U0001d431  \u0645\u0663 * \u0928\u093e\u092e
+t\xe9{a}  \uff54{a}  \xe9{a}  \xe9 \xe9  1\xe9  1.5\xe9  '\xe9'\xe9  \xe9'\xe9'  lambda 1\xe9: a  a.1\xe9  [\xe9  (\xe9  {\xe9:  \xe9.  \xe9 +  lambda \xe9  lambda\xe9: a
+\xe9 \xb7  \xe9.\xb7  (\u20ac)  \xe9\U0001f600  \xa0  \xe9 + \u0663  lambda \u0301: a  'a' \u2028
+"""
+
 SCANNER = r"""
-$  a $  (a $  9223372036854775808  -9223372036854775809  a + 1.0e24  0.1e-22  'a  ["a  \xe9  a.\xe9  \x20\x20\x20a  a\n\x20\x20b\n\x20c  a\n\tb  a !b  ) $
+$  a $  (a $  9223372036854775808  -9223372036854775809  a + 1.0e24  0.1e-22  'a  ["a  \u20ac  a.\u20ac  \x20\x20\x20a  a\n\x20\x20b\n\x20c  a\n\tb  a !b  ) $
 """
 
 NESTED = [sort for sort in generate.NESTED if sort != "blocks"]
@@ -106,7 +114,7 @@ def generated():
 
 
 def sources():
-    blocks = (LITERALS, FORMS, OPERATORS, COMMAS, REFUSED, SCANNER)
+    blocks = (LITERALS, FORMS, OPERATORS, COMMAS, REFUSED, NAMES, SCANNER)
     yield b""
     for block in blocks:
         yield from listed(block)

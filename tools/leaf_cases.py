@@ -3,15 +3,20 @@
 
     python3 tools/leaf_cases.py crates/leaf_cases
 
-Every expected value is Python's own (float, int, re, the strict UTF-8 decoder) or a rule of document 01 written here anew.
+Every expected value is Python's own (float, int, re, the strict UTF-8 decoder, str.isidentifier) or a rule of documents 01 and 02 written here anew.
 Nothing is taken from what the program prints.
 """
 import itertools
+import os
 import random
 import re
 import struct
 import sys
-import unicodedata
+
+sys.dont_write_bytecode = True
+sys.path.insert(0, os.path.join(os.path.dirname(os.path.abspath(__file__)), "reference"))
+import name_cases  # noqa: E402
+from character_cases import character_cases, character_expected, identifier  # noqa: E402
 
 sys.set_int_max_str_digits(0)
 LARGEST_FILE = 65536  # the program reads a file into a buffer of this size
@@ -108,7 +113,6 @@ KEYWORDS = ORDER[: ORDER.index("None")]
 WORDS = {name.lower(): CODE[name] for name in KEYWORDS} | {"None": CODE["None"], "True": CODE["Bool"], "False": CODE["Bool"]}
 MARKS = dict(zip("+ - * // / % == != < <= > >= = ( ) [ ] { } : , ; .".split(), range(CODE["Plus"], CODE["Dot"] + 1))) | {"\n": CODE["Newline"]}
 PATTERNS = [(re.compile(re.escape(text.encode())), code) for text, code in (WORDS | MARKS).items()] + [
-    (re.compile(rb"[A-Za-z_][A-Za-z0-9_]*"), CODE["Identifier"]),
     (re.compile(rb"[+-]?[0-9]+"), CODE["Int"]),
     (re.compile(rb"[0-9]+\.[0-9]+([eE][+-]?[0-9]+)?"), CODE["Float"]),
     (re.compile(rb'"([^"\\]|\\[^\n])*"'), CODE["String"]),
@@ -136,14 +140,24 @@ def token_cases():
     # bytes over 127: a whole character, and single bytes
     cases += ["\u00e9".encode(), "a\u00e9".encode(), "\u03b1 = 1".encode(), "1\u0663".encode(), "\u20ac".encode(), "\U0001f600".encode()]
     cases += [bytes([b]) for b in range(0x80, 0x100)] + [b"a\xff", b'"\xff"', b"'\\\xff'", b"\xc3", b'"\x80\\"\x80"']
+    cases += [*name_cases.sources(), *name_cases.ill_formed(), b"\xc3\xa9\x80", b"\xa9\xc3\xa9", b"a\xcc", b"\xf0\x90\x8c\x80\x80a", b"\xed\x95\x9c\xed\x95"]
     # each plain byte, before a digit and behind a letter
     cases += [bytes([b]) + b"1" for b in range(0x80)] + [b"a" + bytes([b]) for b in range(0x80)]
     return cases
 
 
+def is_name(text):
+    try:
+        return identifier(text.decode("utf-8"))
+    except UnicodeDecodeError:
+        return False
+
+
 def token_at(source, at):
-    """The longest match of document 01's patterns, a keyword before a name of the same length: `code:end`, or a dash."""
-    matches = [(m.end(), code != CODE["Identifier"], code) for pattern, code in PATTERNS if (m := pattern.match(source, at))]
+    """The longest match of the patterns of documents 01 and 02, a keyword before a name of the same length: `code:end`, or a dash. A name is a row of bytes
+    from the place that decodes to what Python says is one."""
+    matches = [(m.end(), True, code) for pattern, code in PATTERNS if (m := pattern.match(source, at))]
+    matches += [(end, False, CODE["Identifier"]) for end in range(at + 1, len(source) + 1) if is_name(source[at:end])]
     if not matches:
         return "-"
     end, _, code = max(matches)
@@ -216,35 +230,6 @@ def utf8_expected(text):
         return "well-formed"
     except UnicodeDecodeError as error:
         return str(error.start)
-
-
-# ---- characters: `c HEX` ----
-
-# A character stays in XID_Start and in XID_Continue once it is there, but one that was in neither may come into them later. From Unicode 14.0 (Python 3.11) to
-# 15.1 (Python 3.13) these four alone did, of those that were assigned (docs/DIFFERENCES.md); a later version may want more of them here.
-LATER = {0x200C, 0x200D, 0x30FB, 0xFF65}
-ILL_FORMED = ["c3", "61eda080", "e282", "f4908080", "c3a980", "ed959cff61"]
-
-
-def known(c):
-    """Whether Unicode 3.2 had the character, and it is none of those: its classes are then the same in these versions."""
-    return c not in LATER and unicodedata.ucd_3_2_0.category(chr(c)) not in ("Cn", "Co", "Cs")
-
-
-def character_cases():
-    points = [c for c in range(0x110000) if known(c)]
-    some = [c for c in points if c < 0x500] + points[::61] + [0x2118, 0x212E, 0x309B, 0xAC00, 0xD7A3, 0xFB01, 0xFF3F, 0x10300, 0x2A6D6, 0xE0020]
-    texts = ["".join(map(chr, some[i : i + 40])).encode() for i in range(0, len(some), 40)]
-    return texts + [bytes.fromhex(text) for text in ILL_FORMED] + [b""]
-
-
-def character_expected(text):
-    try:
-        whole, end = text.decode("utf-8"), ""
-    except UnicodeDecodeError as error:
-        whole, end = text[: error.start].decode("utf-8"), "none"
-    classes = [(ord(c), "s" * (c != "_" and c.isidentifier()), "c" * ("a" + c).isidentifier()) for c in whole]
-    return "".join("%d%s%s;" % one for one in classes) + end
 
 
 # ---- files ----

@@ -4,7 +4,7 @@
     python3 tools/reader_cases.py crates/reader_cases
 
 The sources are those of tools/reader_sources.py. Every expected line is what tools/reference/read.py answers and leaves in the slices, a reader that
-was written from document 01 alone; where the document says number and place itself, or a whole tree, the reader's answer is held to that. Where the
+was written from documents 01 and 02 alone; where document 01 says number and place itself, or a whole tree, the reader's answer is held to that. Where the
 source has tokens, it is held to the ordered trial as well. Nothing is taken from what the program prints.
 """
 import itertools
@@ -12,6 +12,7 @@ import sys
 
 import reader_sources as sources
 import check_answers
+import name_cases
 from descent import descent
 from read import Answer, areas, read, with_deep_stack
 from scan import scan
@@ -31,7 +32,7 @@ USUAL = ["000", "111", "000", "939"]
 # Each of the sources that EVERY names takes all of these: exact, each one short, several short or empty, longer.
 ALL = ["000", "-00", "0-0", "00-", "---", "0--", "-0-", "--0", "...", "0..", "99.", "9-9", "100", "010", "001", "999"]
 EVERY = [b"", b"a", b"\n", b"'x' + 'y'\n", b"a<b<c\n", b"if a:\n  b\n", b"class A:\n  def f(): 'a'\n", b"\xff", b"a'\xc3'", b"\t", b" ", b"  a\n ", b"'a' !",
-         b"9223372036854775808", b"1.0e24", b"'x' \xc3\xa9", b"(" * 65, b"'x' )", b"a-1", b"if a:\n  "]
+         b"9223372036854775808", b"1.0e24", b"'x' \xe2\x82\xac", b"\xed\x95\x9c = '\xc3\xa9'", b"(" * 65, b"'x' )", b"a-1", b"if a:\n  "]
 
 
 # 1 to 4 at a smallest n.
@@ -126,6 +127,7 @@ def lists():
     yield "statements", with_marks([*sources.scripts(sources.SIMPLES), *sources.scripts(sources.BLOCKS), *refused])
     yield "expressions", with_marks(sources.expressions())
     yield "scanner", with_marks([*sources.scanner(), *sources.ill_formed(), *sources.order()])
+    yield "names", with_marks(sources.names())
     yield "limits", with_marks([source for source, _ in [*sources.nested(), *sources.mixed()]]) + with_marks(sources.longest(), ["000", "999"]) + at_the_limits()
     yield "generated", with_marks([*sources.generated(140, 11), *sources.soups(60, 12)])
     yield "damaged", with_marks(sources.damaged(300, 13))
@@ -139,14 +141,15 @@ def at_the_limits():
 
 def hold_to_the_paper():
     """What document 01 says itself: number and place of its scripts, the empty script's counts, the tree of `a<b<c` word by word; and what was counted or
-    told by hand from its sentences: openings and nodes written of 23 scripts, who is accepted, who is too deep, which script has which kind."""
+    told by hand from the sentences of 01 and 02: openings and nodes written of 23 scripts, who is accepted, who is too deep, which script has which kind."""
     check_answers.scripts_of_01()
     check_answers.counted()
     for source, number in [*sources.nested(), *sources.mixed()]:
         assert expected(source, "000")[0].number == number, source
     for number, (source, marks) in enumerate(SMALLEST_SLICES, 1):
         assert expected(joined(source), marks)[0] == Answer(number, 0, 0, 0, 0, 0)
-    for source, number, place in sources.SCRIPTS + sources.SMALLEST:
+    by_hand = [(text.encode(), number, place) for text, number, place in name_cases.BY_HAND]
+    for source, number, place in sources.SCRIPTS + sources.SMALLEST + by_hand:
         answer, _, _ = expected(source, "000")
         assert (answer.number, answer.place) == (number, place), source
     assert expected(b"", "000")[0] == Answer(0, 0, 0, 1, 0, 1)
@@ -185,7 +188,7 @@ def main():
         names.append(name)
         print(f"{name}: {len(lines)} cases, {len(text)} bytes")
     assert kinds == set(range(1, len(KIND_NAMES) + 1)), kinds
-    assert all(numbers.get(number, 0) >= FEWEST for number in range(15)), numbers
+    assert all(numbers.get(number, 0) >= FEWEST for number in range(15) if number != 12) and 12 not in numbers, numbers
     open(f"{crate}/args", "w").write("".join(name + "\n" for name in names))
     open(f"{crate}/stdout", "w").write("".join(stdout))
     print(f"{len(stdout)} cases, {sum(map(len, stdout))} bytes; " + ", ".join(f"{number}: {numbers[number]}" for number in sorted(numbers)))

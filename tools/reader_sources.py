@@ -7,6 +7,7 @@ sys.dont_write_bytecode = True
 sys.path.insert(0, os.path.join(os.path.dirname(os.path.abspath(__file__)), "reference"))
 import expr_cases  # noqa: E402
 import generate  # noqa: E402
+import name_cases  # noqa: E402
 import token_cases  # noqa: E402
 
 MOST = 65536  # "n at most 65,536"
@@ -24,7 +25,7 @@ SCRIPTS = [
 # Each question at a smallest source: its no in number and place, by the sentence of 01. 1 to 4 are asked of n and the slices: see SMALLEST_SLICES in reader_cases.py.
 SMALLEST = [
     (b"\xff", 5, 0), (b"\t", 6, 0), (b" ", 7, 0), (b"  a\n ", 8, 4), (b"!", 9, 0), (b"9223372036854775808", 10, 0), (b"1.0e24", 11, 0),
-    ("\u0080".encode(), 12, 0), (b"(" * 65, 13, 64), (b")", 14, 0),
+    (b"(" * 65, 13, 64), (b")", 14, 0),
 ]
 
 # The first of each kind, in the order of the kinds (a Program is in all).
@@ -78,8 +79,9 @@ def expressions():
 
 
 def scanner():
-    """Every fourth of those that scan_cases has by hand, short ones."""
-    return [source for source in list(token_cases.picked())[::4] if len(source) < 60]
+    """Every fourth of those that scan_cases has by hand, short ones, but the names below."""
+    named = set(name_cases.sources())
+    return [source for source in [s for s in token_cases.picked() if s not in named][::4] if len(source) < 60]
 
 
 # Ill-formed UTF-8 (table 3-7), and the place of its first byte is told by what stands before it.
@@ -95,9 +97,14 @@ def ill_formed():
         yield from [bad, b"'\xc3\xa9" + bad + b"'", b"a #" + bad, b"\t$ 1.0e24 )" + bad + b"\xff"]
 
 
+def names():
+    """Those of 02, in any script, and ill-formed ones: 5 comes first."""
+    return list(dict.fromkeys([*name_cases.sources(), *name_cases.ill_formed()]))
+
+
 def order():
-    """The earliest in the source of 6 to 12, each before and behind the others; then 13 and 14 by the earliest token."""
-    causes = [b"\n\t", b"\n   a", b"\n  a\n a", b" $", b" 9223372036854775808", b" 1.0e24", b" \xc3\xa9", b" )"]
+    """The earliest in the source of 6 to 11, each before and behind the others; then 13 and 14 by the earliest token."""
+    causes = [b"\n\t", b"\n   a", b"\n  a\n a", b" $", b" 9223372036854775808", b" 1.0e24", b" \xe2\x82\xac", b" )"]
     for first in causes:
         for second in causes:
             if first != second:
@@ -148,7 +155,7 @@ def longest():
         yield from [[(b"#", n - 1), (b"\xff", 1)], [(b"#", n - 2), (b"\n", 1), (b"(", 1)], [(b"#", n - 2), (b"\n", 1), (b"\t", 1)], [(b"a\n", n // 2), (b"\n", n % 2)]]
     yield from [[(b"a;", MOST // 2)], [(b"a,", MOST // 2)], [(b"a<", MOST // 2 - 1), (b"b\n", 1)], [(b"''\n ", 1), (b"\n\n", MOST // 2 - 2)], [(b"-", MOST - 1), (b"a", 1)]]
     yield from [[(b"[", 1), (b"'x',", MOST // 4 - 1), (b"  ]", 1)], [(b"if a:b\nelse:c\n#\n", MOST // 16)], [(b"a+b*c-d\n", MOST // 8)], [(b"0", MOST - 1), (b"\n", 1)]]
-    yield from [[(b"\n", MOST - 1), (b")", 1)], [(b"\xc3\xa9", MOST // 2)], [(b"#", MOST - 2), (b"\xc3\xa9", 1)], [(b"(", 64), (b")", MOST - 64)], [(b"(", MOST)]]
+    yield from [[(b"\n", MOST - 1), (b")", 1)], [(b"\xc3\xa9", MOST // 2)], [(b"\xed\x95\x9c", MOST // 3), (b"a", 1)], [(b"\xf0\x90\x8c\x80", MOST // 4)], [(b"\xc3\xa9 ", MOST // 3), (b"a", 1)], [(b"#", MOST - 2), (b"\xc3\xa9", 1)], [(b"(", 64), (b")", MOST - 64)], [(b"(", MOST)]]
 
 
 def generated(count, seed, shortest=8, most=90):

@@ -1,4 +1,4 @@
-"""Checks of the reference: the scripts of document 01, and trial against descent.
+"""Checks of the reference: the scripts of documents 01 and 02, and trial against descent.
 
 Run without arguments; it takes a minute or two, prints how many inputs each part
 compared and stops with the input at the first disagreement.
@@ -8,7 +8,7 @@ import random
 import time
 
 import generate
-from check_answers import counted, scripts_of_01, slices, utf8_places
+from check_answers import counted, names, scripts_of_01, slices, utf8_places
 from descent import descent
 from read import with_deep_stack
 from scan import Code, Refusal, Token, scan
@@ -225,6 +225,7 @@ def main():
         ("counts by hand", counted),
         ("slices", slices),
         ("UTF-8 places", utf8_places),
+        ("names", names),
         ("short strings", short_strings),
         ("token lists", lambda: token_lists(4)),
         ("walks", walks),

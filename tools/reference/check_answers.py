@@ -1,10 +1,14 @@
-"""Checks of single answers: the scripts of document 01, the lent slices, UTF-8 places."""
+"""Checks of single answers: the scripts of document 01, the lent slices, UTF-8 places, names."""
+import ast
 import itertools
+import sys
 
 import generate
+import name_cases
+from characters import LATER, of_3_2
 from descent import descent
 from read import Answer, areas, program, read
-from scan import Refusal, scan, utf8
+from scan import Code, Refusal, scan, utf8
 from tree import END, NONE, P, Q, R, START, Kind
 
 
@@ -192,4 +196,37 @@ def utf8_places():
                 place = no.place
             assert place == first_bad(source), source
             cases += 1
+    return cases
+
+
+def one_name(text):
+    """Whether the text is one name, by the scanner."""
+    try:
+        tokens, _ = scan(text.encode())
+    except Refusal:
+        return False
+    return [token[:3] for token in tokens[:-1]] == [(Code.Identifier, 0, len(text.encode()))]
+
+
+def one_name_of_python(text):
+    """Whether it is one by CPython's own parser, from the first byte to the last."""
+    try:
+        node = ast.parse(text, mode="eval").body
+    except SyntaxError:
+        return False
+    return isinstance(node, ast.Name) and node.end_col_offset == len(text.encode())
+
+
+def names():
+    """What 02 says of single sources; and of every character over 127 that Unicode 3.2 has,
+    alone and behind a letter, whether it is a name by the scanner and by CPython's parser."""
+    for text, number, place in name_cases.BY_HAND:
+        given, _ = answer(text.encode())
+        assert (given.number, given.place) == (number, place), (text, given)
+    cases = len(name_cases.BY_HAND)
+    for c in map(chr, range(128, sys.maxunicode + 1)):
+        if of_3_2(c) and c not in LATER:
+            for text in (c, "a" + c):
+                assert one_name(text) == one_name_of_python(text), text
+                cases += 1
     return cases

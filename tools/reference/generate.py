@@ -5,7 +5,8 @@ soup: words of the language in any order. script: a script of the grammar of doc
 nested: deep nesting of one sort.
 """
 
-NAMES = [b"a", b"b", b"t", b"_x1", b"ifs", b"Truely", b"e5"]
+NAMES = [b"a", b"b", b"t", b"_x1", b"ifs", b"Truely", b"e5", b"\xc3\xa9", b"a\xc3\xa9",
+         b"\xed\x95\x9c\xea\xb8\x80", b"x\xc2\xb71", b"\xe2\x84\x98", b"\xf0\x90\x8c\x80"]
 INTS = [b"0", b"1", b"+7", b"-1", b"007", b"9223372036854775807", b"-9223372036854775808"]
 FLOATS = [b"1.5", b"0.0", b"1.0e22", b"2.5E-3", b"900719925474099.2", b"00.10e+2"]
 STRINGS = [b'""', b"'a'", b'"a\\n\\t\\r\\\\\\"\\\'"', b"'\\q\\0'", b"'\xc3\xa9'", b"'\n  '", b'"#"',
@@ -16,8 +17,8 @@ SIGNS = b"+ - * // / % == != < <= > >= = ( ) [ ] { } : , ; .".split()
 BLANKS = [b"", b"", b" ", b" ", b"  ", b"\t", b"\r", b" \r ", b"#c\n"]
 LINE_STARTS = [b"\n", b"\n", b"\n  ", b"\n  ", b"\n    ", b"\n\n", b"\n\r", b"\r\n", b"\n \n",
                b"\n   #c\n", b"#\n"]
-ODD = [b"\n ", b"\n   ", b"\n\t", b"!", b"$", b"'", b'"', b"\\", b"\xc3\xa9", b"9223372036854775808",
-       b"1.0e24", b"900719925474099.3", b"\x00", b"1.", b".5", b"@"]
+ODD = [b"\n ", b"\n   ", b"\n\t", b"!", b"$", b"'", b'"', b"\\", b"\xe2\x82\xac", b"\xc2\xb7",
+       b"9223372036854775808", b"1.0e24", b"900719925474099.3", b"\x00", b"1.", b".5", b"@"]
 
 
 def soup(rng, length, odd=0.02):

@@ -1,4 +1,5 @@
-"""The reader of document 01: the fourteen questions, the answer, the areas, the program.
+"""The reader of document 01, with change 1 of document 02: the questions, the answer, the
+areas, the program.
 
 Run as a program it reads a script from standard input and prints its tree, or `no`,
 number and place.

@@ -1,11 +1,14 @@
-"""Source text to tokens: sections "Raw tokens" and "Indentation" of document 01.
+"""Source text to tokens: sections "Raw tokens" and "Indentation" of document 01, and
+change 1 of document 02.
 
-Quoted sentences are those of 01. Written from that paper alone, as the judge
+Quoted sentences are those of 01 and 02. Written from these papers alone, as the judge
 that expected results come from; it favours plainness over speed.
 """
 import re
 from collections import namedtuple
 from types import SimpleNamespace
+
+from characters import name_end
 
 # "A token's code is its position in `Token`, from If = 1 to Eof = 49."
 TOKEN_NAMES = (
@@ -34,7 +37,7 @@ SPELLINGS = {
 }
 LONGEST_SPELLING_FIRST = sorted(SPELLINGS, key=len, reverse=True)
 
-# The patterns, the fixed spellings first. The order matters only at equal length.
+# The patterns but that of names, the fixed spellings first. The order matters only at equal length.
 PATTERNS = [
     (None, re.compile(b"|".join(map(re.escape, LONGEST_SPELLING_FIRST)))),
     # "Int: optional sign, digits"
@@ -44,8 +47,6 @@ PATTERNS = [
     # "String: same quote at both ends, line feeds allowed, a backslash with any
     # character but a line feed."
     (Code.String, re.compile(rb'"(?:[^"\\]|\\[^\n])*"|' rb"'(?:[^'\\]|\\[^\n])*'")),
-    # "Name: letter or underscore, then letters, digits, underscores, ASCII here."
-    (Code.Identifier, re.compile(rb"[A-Za-z_][A-Za-z0-9_]*")),
 ]
 
 # "Between tokens, runs of space, tab and carriage return are skipped, and `#` up
@@ -82,6 +83,11 @@ def longest(source, place):
         if match and match.end() > best_end:
             best_end = match.end()
             best_code = SPELLINGS[match.group()] if code is None else code
+    # "Name: letter or underscore, then letters, digits, underscores, ASCII here." By 02 a
+    # name "begins with an XID_Start character or underscore and continues with XID_Continue".
+    end = name_end(source, place)
+    if end is not None and end > best_end:
+        best_code, best_end = Code.Identifier, end
     return best_code, best_end
 
 
@@ -129,7 +135,7 @@ def string_value(spelling):
 
 
 def scan(source):
-    """Tokens with Eof last, and the decoded text; or the first of refusals 6 to 12."""
+    """Tokens with Eof last, and the decoded text; or the first of refusals 6 to 11."""
     n = len(source)
     tokens, text = [], bytearray()
     levels = [0]
@@ -172,9 +178,8 @@ def scan(source):
         place = SKIPPED.match(source, place).end()
         if place == n:
             break
-        # "12 no byte over 127 where a token would start, asked before 9? (token start)"
-        if source[place] > 127:
-            raise Refusal(12, place)
+        # "Another character over 127 where a token would start gets 9, so 12 never occurs
+        # from here on"
         code, end = longest(source, place)
         if code is None:
             raise Refusal(9, place)

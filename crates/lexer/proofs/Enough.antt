@@ -6,7 +6,7 @@ use mathlib.Core.List.{List, [], _∷_}
 use Prim.Native.Nat.{ℕ, zero, suc, _+_, _-_, _%_, _<_, _≤_}
 use native.Mathlib.Omega.{arith}
 use lib.Dec.{eqb, ltb}
-use lib.ListN.{length, getD, replicate}
+use lib.ListN.{length, replicate}
 use Rattle.source.specs.Bytes.{part}
 use Rattle.token.specs.Code as Code
 use Rattle.tokens.specs.Token.{token}
@@ -19,7 +19,7 @@ use Rattle.raw_token.proofs.Within.{token-within}
 use Rattle.spacing.specs.Gap.{gapEnd}
 use Rattle.spacing.specs.Indentation.{step, indentationAt}
 use Rattle.lexer.specs.Value.{valueOf, textOf}
-use Rattle.lexer.specs.Scan.{refused, prepend, mark, lexer, Rest, marksThen, indentThen, closed, valueThen, foundThen, tokenThen, scanFrom, tokenList}
+use Rattle.lexer.specs.Scan.{prepend, mark, lexer, Rest, marksThen, indentThen, closed, valueThen, foundThen, tokenThen, scanFrom, tokenList}
 use Rattle.lexer.specs.declared.Lexer.{Lexer}
 use Rattle.spacing.specs.declared.line.Indentation.{Indentation}
 use Rattle.spacing.specs.declared.line.Indentation.the-variants.{Blank, Level, No}
@@ -51,7 +51,7 @@ module _ (s : List ℕ) (x : Lexer) (reached : Reached (length s) x) (rest rest�
   pub token-alike : Alike (length s) (x .at + 1) rest rest′ → tokenThen s rest x ≡ tokenThen s rest′ x
   unfolding tokenThen
   token-alike h =
-      by-token (ltb start (length s)) (ltb 127 (getD s start 0)) (tokenAt s start) (token-within s start)
+      by-token (ltb start (length s)) (tokenAt s start) (token-within s start)
     where
       start : ℕ
       start = gapEnd s (x .at)
@@ -62,12 +62,11 @@ module _ (s : List ℕ) (x : Lexer) (reached : Reached (length s) x) (rest rest�
           (h (lexer end (eqb code Code.Newline || x .flag) (x .top) (x .count + 1) (x .used + length bs)) (omega (arith, gap-from s (x .at))) (b, reached .1))
       by-value code end bs Refused a b = refl
 
-      by-token : (t u : Bool) (k : RawToken) → ((code end : ℕ) → k ≡ Found code end → (start < end) × (end ≤ length s))
-          → cond t (cond u (refused 12 start) (foundThen s rest x start k)) (closed (length s) x) ≡ cond t (cond u (refused 12 start) (foundThen s rest′ x start k)) (closed (length s) x)
-      by-token false u k w = refl
-      by-token true true k w = refl
-      by-token true false NoMatch w = refl
-      by-token true false (Found code end) w =
+      by-token : (t : Bool) (k : RawToken) → ((code end : ℕ) → k ≡ Found code end → (start < end) × (end ≤ length s))
+          → cond t (foundThen s rest x start k) (closed (length s) x) ≡ cond t (foundThen s rest′ x start k) (closed (length s) x)
+      by-token false k w = refl
+      by-token true NoMatch w = refl
+      by-token true (Found code end) w =
           let b = w code end refl in
           by-value code end (textOf code (part s start end)) (valueOf code (part s start end) (x .used)) (b .0) (b .1)
 

@@ -122,7 +122,7 @@ no-level : says (bytes "a\n  b\n c") ≡ none 8 6
 unfolding says
 no-level = refl
 
--- ---- strings, and bytes over 127
+-- ---- strings, and characters over 127
 
 -- "Escapes n t r \ " ' are decoded; another keeps its backslash"; the text is in token order
 escapes : says (bytes "'a\\n\\q' \"\\\"\"") ≡ filled (C.String ∷ 0 ∷ 7 ∷ C.String ∷ 8 ∷ 12 ∷ C.Eof ∷ 12 ∷ 12 ∷ []) (97 ∷ 10 ∷ 92 ∷ 113 ∷ 34 ∷ [])
@@ -134,13 +134,15 @@ unclosed : says (bytes "a 'b") ≡ none 9 2
 unfolding says
 unclosed = refl
 
--- 12 where a token would start; free in strings and comments
-high-bytes :
-    (says (97 ∷ 195 ∷ 169 ∷ []) ≡ none 12 1)
+-- "Another character over 127 where a token would start gets 9" (02, change 1), at its first byte: the euro sign behind a name, and the middle dot, which
+-- begins none; any is free in strings and comments
+other-characters :
+    (says (97 ∷ 226 ∷ 130 ∷ 172 ∷ []) ≡ none 9 1)
+    × (says (194 ∷ 183 ∷ []) ≡ none 9 0)
     × (says (39 ∷ 195 ∷ 169 ∷ 39 ∷ []) ≡ filled (C.String ∷ 0 ∷ 4 ∷ C.Eof ∷ 4 ∷ 4 ∷ []) (195 ∷ 169 ∷ []))
     × (says (35 ∷ 195 ∷ 169 ∷ []) ≡ filled (C.Eof ∷ 3 ∷ 3 ∷ []) [])
 unfolding says
-high-bytes = (refl, refl, refl)
+other-characters = (refl, refl, refl, refl)
 
 -- the earliest in the source decides
 earliest :

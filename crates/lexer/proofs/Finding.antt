@@ -6,7 +6,7 @@ use mathlib.Core.List.{List, [], _∷_}
 use Prim.Native.Nat.{ℕ, _+_, _-_, _*_, _<_, _≤_, zero-le}
 use native.Mathlib.Omega.{arith}
 use lib.Dec.{eqb}
-use lib.ListN.{length, getD, take}
+use lib.ListN.{length, take}
 use lib.Seq.{sets}
 use borrow.Author.Tests.{lt-ltb, le-ltb}
 use Rattle.source.specs.Bytes.{part}
@@ -99,14 +99,9 @@ module _ (s : List ℕ) (x : Lexer) (start : ℕ) (isStart : start ≡ gapEnd s 
   unfolding tokenThen
   next-closed h rest = rw (← isStart, le-ltb start (length s) h)
 
-  module _ (within : start < length s) where
-    pub next-high : 127 < getD s start 0 → (rest : Rest) → tokenThen s rest x ≡ refused 12 start
-    unfolding tokenThen
-    next-high h rest = rw (← isStart, lt-ltb start (length s) within, lt-ltb 127 (getD s start 0) h)
-
-    pub next-found : getD s start 0 ≤ 127 → (t : RawToken) → tokenAt s start ≡ t → (rest : Rest) → tokenThen s rest x ≡ foundThen s rest x start t
-    unfolding tokenThen
-    next-found h t e rest = rw (← isStart, lt-ltb start (length s) within, le-ltb 127 (getD s start 0) h, e)
+  pub next-found : start < length s → (t : RawToken) → tokenAt s start ≡ t → (rest : Rest) → tokenThen s rest x ≡ foundThen s rest x start t
+  unfolding tokenThen
+  next-found h t e rest = rw (← isStart, lt-ltb start (length s) h, e)
 
   pub refused-at : (number n : ℕ) (scan : Rest → Scan) (tokens text : List ℕ) → ((rest : Rest) → scan rest ≡ refused number start) → Turns n scan x (T.No number start) tokens text tokens text
   refused-at number n scan tokens text e = record { is = λ rest. ap (soFar tokens text x) (e rest); within = tt }

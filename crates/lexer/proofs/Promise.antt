@@ -146,7 +146,7 @@ module _ (s : List ℕ) (x : Lexer) (reached : Reached (length s) x) (rest : Res
 
   token-then : Makes s (x .at) (x .top / step) (x .used) (tokenThen s rest x)
   unfolding tokenThen closed
-  token-then = by-token (ltb start (length s)) (ltb 127 (getD s start 0)) (tokenAt s start) refl
+  token-then = by-token (ltb start (length s)) (tokenAt s start) refl
     where
       start : ℕ
       start = gapEnd s (x .at)
@@ -166,13 +166,12 @@ module _ (s : List ℕ) (x : Lexer) (reached : Reached (length s) x) (rest : Res
           token-makes code end e v f (rest y) (makes y (token-within s start code end e .1, reached .1))
       by-value code end e Refused f = tt
 
-      by-token : (t u : Bool) (k : RawToken) → tokenAt s start ≡ k → Makes s (x .at) (x .top / step) (x .used) (cond t (cond u (refused 12 start) (foundThen s rest x start k)) (closed (length s) x))
-      by-token false u k e =
+      by-token : (t : Bool) (k : RawToken) → tokenAt s start ≡ k → Makes s (x .at) (x .top / step) (x .used) (cond t (foundThen s rest x start k) (closed (length s) x))
+      by-token false k e =
           let n = length s in
           dedents (x .top / step) (x .at) (x .at) (x .top / step) (reached .0) (reached .0) (le-refl n) (le-refl n) (omega arith) (eof (le-refl n) (le-refl n))
-      by-token true true k e = tt
-      by-token true false NoMatch e = tt
-      by-token true false (Found code end) e = by-value code end e (valueOf code (part s start end) (x .used)) refl
+      by-token true NoMatch e = tt
+      by-token true (Found code end) e = by-value code end e (valueOf code (part s start end) (x .used)) refl
 
 -- ---- the scan
 

@@ -1,4 +1,4 @@
--- A refusal of the scanner is one of 6 to 12, and stands within the source.
+-- A refusal of the scanner is one of 6 to 11, and stands within the source.
 -- Assumes nothing.
 use mathlib.Core.Path.{_≡_, refl, subst}
 use mathlib.Core.Bool.{Bool, true, false, cond, _||_}
@@ -31,7 +31,7 @@ use Rattle.lexer.proofs.Enough.{Reached, gap-from}
 -- a refusal's number and place
 pub record Refuses (n number place : ℕ) : Type 0 where
   pub least : 6 ≤ number
-  pub greatest : number ≤ 12
+  pub greatest : number ≤ 11
   pub within : place ≤ n
 
 abbrev Sound : ℕ → Scan → Type 0
@@ -107,16 +107,15 @@ module _ (s : List ℕ) (x : Lexer) (reached : Reached (length s) x) (rest : Res
           number-sound true = record { least = omega arith; greatest = omega arith; within = omega arith }
           number-sound false = record { least = omega arith; greatest = omega arith; within = omega arith }
 
-      by-token : start < length s → (u : Bool) (k : RawToken) → ((code end : ℕ) → k ≡ Found code end → (start < end) × (end ≤ length s)) → Sound (length s) (cond u (refused 12 start) (foundThen s rest x start k))
-      by-token l true k w = record { least = omega arith; greatest = omega arith; within = omega arith }
-      by-token l false NoMatch w = record { least = omega arith; greatest = omega arith; within = omega arith }
-      by-token l false (Found code end) w =
+      by-token : start < length s → (k : RawToken) → ((code end : ℕ) → k ≡ Found code end → (start < end) × (end ≤ length s)) → Sound (length s) (foundThen s rest x start k)
+      by-token l NoMatch w = record { least = omega arith; greatest = omega arith; within = omega arith }
+      by-token l (Found code end) w =
           let b = w code end refl in
           by-value code end (textOf code (part s start end)) (valueOf code (part s start end) (x .used)) (b .0) (b .1)
 
-      by-end : (t : Bool) → (t ≡ true → start < length s) → Sound (length s) (cond t (cond (ltb 127 (getD s start 0)) (refused 12 start) (foundThen s rest x start (tokenAt s start))) (closed (length s) x))
+      by-end : (t : Bool) → (t ≡ true → start < length s) → Sound (length s) (cond t (foundThen s rest x start (tokenAt s start)) (closed (length s) x))
       by-end false l = tt
-      by-end true l = by-token (l refl) (ltb 127 (getD s start 0)) (tokenAt s start) (token-within s start)
+      by-end true l = by-token (l refl) (tokenAt s start) (token-within s start)
 
 scan-sound : (f : ℕ) (s : List ℕ) (x : Lexer) → Reached (length s) x → length s - x .at < f → Sound (length s) (scanFrom f s x)
 unfolding scanFrom
@@ -125,7 +124,7 @@ scan-sound (suc f) s x r h =
     indent-sound s x r (tokenThen s (scanFrom f s))
     (λ y a p. token-sound s y p (scanFrom f s) (λ z b q. scan-sound f s z q (omega (arith, q .0))))
 
--- "6 indentation without tabs? .. 12 no byte over 127 where a token would start": these numbers and no other
+-- "6 indentation without tabs? .. 11 Float admitted?": these numbers and no other, "so 12 never occurs from here on" (02, change 1)
 pub refusals : (s : List ℕ) (number place : ℕ) → tokenList s ≡ refused number place → Refuses (length s) number place
 unfolding tokenList
 refusals s number place e =

@@ -1,4 +1,4 @@
--- The token list of a source (01, Raw tokens, Indentation, and questions 6 to 12). Of the scanner the crates above cite this and its answers, the words
+-- The token list of a source (01, Raw tokens, Indentation, and questions 6 to 11). Of the scanner the crates above cite this and its answers, the words
 -- and text of a list, and a token's value.
 -- The state is the code's struct Lexer: `at`, the place reached; `flag`; `top`, the deepest open level; `count`, the tokens so far, which the code needs
 -- and no rule asks; `used`, the text so far, which a String's offset needs.
@@ -7,7 +7,7 @@ use Prim.Native.Nat.{ℕ, zero, suc, _+_, _/_}
 use mathlib.Core.Bool.{Bool, true, false, cond, _||_}
 use mathlib.Core.List.{List, [], _∷_, _++_}
 use lib.Dec.{eqb, ltb}
-use lib.ListN.{length, getD, replicate}
+use lib.ListN.{length, replicate}
 use Rattle.source.specs.Bytes.{part}
 use Rattle.token.specs.Code as Code
 use Rattle.tokens.specs.Token.{Token, token}
@@ -69,18 +69,18 @@ valueThen rest x code start end bs (Value v) =
     (rest (lexer end (eqb code Code.Newline || x .flag) (x .top) (x .count + 1) (x .used + length bs)))
 valueThen rest x code start end bs Refused = refused (refusalOf code) start
 
--- "9 does a token match?"
+-- "9 does a token match?"; and since 02, change 1: "Another character over 127 where a token would start gets 9, so 12 never occurs from here on"
 abbrev pub foundThen : List ℕ → Rest → Lexer → ℕ → RawToken → Scan
 foundThen s rest x start (Found code end) =
     valueThen rest x code start end (textOf code (part s start end)) (valueOf code (part s start end) (x .used))
 foundThen s rest x start NoMatch = refused 9 start
 
--- the next token, behind what is skipped; "12 no byte over 127 where a token would start, asked before 9?"
+-- the next token, behind what is skipped
 unfoldable pub tokenThen : List ℕ → Rest → Lexer → Scan
 tokenThen s rest x =
     let start = gapEnd s (x .at) in
     cond (ltb start (length s))
-    (cond (ltb 127 (getD s start 0)) (refused 12 start) (foundThen s rest x start (tokenAt s start)))
+    (foundThen s rest x start (tokenAt s start))
     (closed (length s) x)
 
 -- from a state on: the spaces that count, then a token, and so on. Each token takes a byte or more, so one more turn than there are bytes is enough

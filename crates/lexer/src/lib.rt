@@ -138,12 +138,6 @@ fn next_token(src: &[u8], tokens: &mut [u32], text: &mut [u8], x: Lexer) -> Turn
     if src.len() <= start {
         return close(tokens, src.len(), x);
     }
-    if 127 < src[start] {
-        return Turn::No {
-            number: 12,
-            place: start,
-        };
-    }
     match raw_token::token_at(src, start) {
         RawToken::Found { code, end } => found(src, tokens, text, x, start, code, end),
         RawToken::NoMatch => Turn::No {
@@ -212,7 +206,7 @@ fn fill(src: &[u8], tokens: &mut [u32], text: &mut [u8]) -> Scanned
     }
 }
 
-// The tokens and the text of a source, or the first refusal of 6 to 12. `Scans` says what the answer is and what every word of both slices is
+// The tokens and the text of a source, or the first refusal of 6 to 11. `Scans` says what the answer is and what every word of both slices is
 // afterwards.
 pub fn scan(src: &[u8], tokens: &mut [u32], text: &mut [u8]) -> Scanned
     requires { ⌜ Room (now src) (now tokens) (now text) ⌝ }

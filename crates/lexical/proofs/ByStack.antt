@@ -190,7 +190,7 @@ module _ (s : List ℕ) (rest : Rest) (on : Onward) (alike : Alike rest on) (y :
 
   token-alike : tokenOn s on y ≡ prepend (y .tokens) (y .text) (tokenThen s rest (lexer (y .at) (y .flag) (step * d) count (length (y .text))))
   unfolding tokenOn tokenThen closedOn closed
-  token-alike = by-token (ltb start (length s)) (ltb 127 (getD s start 0)) (tokenAt s start) refl
+  token-alike = by-token (ltb start (length s)) (tokenAt s start) refl
     where
       start : ℕ
       start = gapEnd s (y .at)
@@ -213,15 +213,14 @@ module _ (s : List ℕ) (rest : Rest) (on : Onward) (alike : Alike rest on) (y :
           ∙ prepend-twice (y .tokens) (token code start end v ∷ []) (y .text) bs (y .text ++ bs) (rest (lexer end flag (step * d) (count + 1) (length (y .text ++ bs)))) refl)
       by-value code end bs f Refused = refl
 
-      by-token : (t u : Bool) (k : RawToken) → tokenAt s start ≡ k
-          → cond t (cond u (refused 12 start) (foundOn s on y start k)) (closedOn (length s) y)
-          ≡ prepend (y .tokens) (y .text) (cond t (cond u (refused 12 start) (foundThen s rest x start k)) (closed (length s) x))
-      by-token false u k f =
+      by-token : (t : Bool) (k : RawToken) → tokenAt s start ≡ k
+          → cond t (foundOn s on y start k) (closedOn (length s) y)
+          ≡ prepend (y .tokens) (y .text) (cond t (foundThen s rest x start k) (closed (length s) x))
+      by-token false k f =
           let c : above 0 (ladder d) ≡ step * d / step = omega (arith, above-ladder 0 d (omega arith) (omega arith)) in
           rw (e, c, append-nil (y .text))
-      by-token true true k f = refl
-      by-token true false NoMatch f = refl
-      by-token true false (Found code end) f = by-value code end (textOf code (part s start end)) f (valueOf code (part s start end) (length (y .text)))
+      by-token true NoMatch f = refl
+      by-token true (Found code end) f = by-value code end (textOf code (part s start end)) f (valueOf code (part s start end) (length (y .text)))
 
 on-alike : (fuel : ℕ) (s : List ℕ) → Alike (scanFrom fuel s) (onFrom fuel s)
 unfolding scanFrom onFrom

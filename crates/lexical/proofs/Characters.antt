@@ -5,14 +5,16 @@ use mathlib.Core.Bool.{Bool, true, false, cond, _&&_, _||_, true≢false}
 use mathlib.Core.List.{List, [], _∷_, _++_}
 use Prim.Native.Nat.{ℕ, zero, suc, _+_, _<_, _≤_}
 use native.Mathlib.Omega.{arith}
+use native.Mathlib.Decide.{decLt}
 use lib.Dec.{eqb, leb, ltb}
 use lib.ListN.{length, take, drop, length-append, length-drop, take-append-drop}
 use lib.Seq.{take-append-seam, drop-append-seam}
-use borrow.Author.Tests.{ltb-true, leb-true, eqb-true, eq-eqb, le-leb}
+use borrow.Author.Tests.{ltb-true, leb-true, eqb-true, eq-eqb, le-leb, lt-leb}
 use Rattle.source.specs.Bytes.{between}
-use Rattle.source.proofs.Bools.{and-left, and-right, or-either}
+use Rattle.source.proofs.Bools.{and-left, and-right, and-false, or-either}
 use Rattle.utf8.specs.Table.{Row, rows, fits, lengthBy, sequenceLength, step, firstIllFormed, utf8Error}
 use Rattle.utf8.specs.declared.Utf8.the-variants.{WellFormed}
+use Rattle.utf8.proofs.Rows.{low-sequence}
 use Rattle.lexical.specs.Characters.{isOf, isCharacter, areCharacters, bytesOf, cut, characters}
 
 -- ---- the sequence at the front of a list is a character
@@ -41,6 +43,10 @@ front-is (row ∷ rs) l h = go (fits row l) (front-fits row l) (front-is rs l) h
         → 0 < cond t (length row) (lengthBy rs l) → isOf (row ∷ rs) (take (cond t (length row) (lengthBy rs l)) l) ≡ true
     go true f g k = let x = f refl in rw (x .0, eq-eqb (length row) (length (take (length row) l)) (x .1))
     go false f g k = rw (g k) (or-right-true (exact row (take (lengthBy rs l) l)))
+
+pub front-is-character : (l : List ℕ) → 0 < sequenceLength l → isCharacter (take (sequenceLength l) l) ≡ true
+unfolding sequenceLength
+front-is-character l h = front-is rows l h
 
 -- ---- no byte begins two rows: a character is the sequence at the front of what it begins
 
@@ -159,6 +165,81 @@ pub well : (cs : List (List ℕ)) → areCharacters cs ≡ true → utf8Error (b
 unfolding utf8Error
 well cs e = well-from (length (bytesOf cs)) 0 cs e
 
+-- ---- the bytes behind the first of a character are of their own
+
+-- 10xxxxxx
+abbrev pub trailing : ℕ → Bool
+trailing b = between 128 191 b
+
+abbrev pub allTrailing : List ℕ → Bool
+allTrailing [] = true
+allTrailing (b ∷ c) = trailing b && allTrailing c
+
+-- each range lies in that of the trailing bytes
+abbrev inTrailing : Row → Bool
+inTrailing [] = true
+inTrailing (r ∷ rs) = leb 128 (r .0) && (leb (r .1) 191 && inTrailing rs)
+
+-- each range behind the first of a row does, and the first has none of them
+abbrev parts : List Row → Bool
+parts [] = true
+parts ([] ∷ more) = false
+parts ((r ∷ rs) ∷ more) = inTrailing rs && ((ltb (r .1) 128 || ltb 191 (r .0)) && parts more)
+
+rows-parts : parts rows ≡ true
+unfolding rows
+rows-parts = refl
+
+trailing-fits : (rs : Row) (c : List ℕ) → inTrailing rs ≡ true → fits rs c ≡ true → length rs ≡ length c → allTrailing c ≡ true
+trailing-fits [] [] t f n = refl
+trailing-fits [] (b ∷ c) t f n = absurd (omega arith)
+trailing-fits (r ∷ rs) [] t f n = refl
+trailing-fits (r ∷ rs) (b ∷ c) t f n =
+    let lo = leb-true 128 (r .0) (and-left (leb 128 (r .0)) (leb (r .1) 191 && inTrailing rs) t) in
+    let u = and-right (leb 128 (r .0)) (leb (r .1) 191 && inTrailing rs) t in
+    let hi = leb-true (r .1) 191 (and-left (leb (r .1) 191) (inTrailing rs) u) in
+    let g = and-left (between (r .0) (r .1) b) (fits rs c) f in
+    let x = leb-true (r .0) b (and-left (leb (r .0) b) (leb b (r .1)) g) in
+    let y = leb-true b (r .1) (and-right (leb (r .0) b) (leb b (r .1)) g) in
+    rw (le-leb 128 b (omega arith), le-leb b 191 (omega arith)) (trailing-fits rs c (and-right (leb (r .1) 191) (inTrailing rs) u) (and-right (between (r .0) (r .1) b) (fits rs c) f) (omega arith))
+
+trailing-of : (rs : List Row) (a : ℕ) (c : List ℕ) → parts rs ≡ true → isOf rs (a ∷ c) ≡ true → allTrailing c ≡ true
+trailing-of [] a c t e = absurd (true≢false (sym e))
+trailing-of ([] ∷ more) a c t e = absurd (true≢false (sym t))
+trailing-of ((r ∷ rs) ∷ more) a c t e =
+    or-either (exact (r ∷ rs) (a ∷ c)) (isOf more (a ∷ c))
+    (λ x. trailing-fits rs c (and-left (inTrailing rs) _ t) (and-right (between (r .0) (r .1) a) (fits rs c) (and-left (fits (r ∷ rs) (a ∷ c)) _ x)) (let n = eqb-true (length (r ∷ rs)) (length (a ∷ c)) (and-right (fits (r ∷ rs) (a ∷ c)) _ x) in omega arith))
+    (λ x. trailing-of more a c (and-right (ltb (r .1) 128 || ltb 191 (r .0)) (parts more) (and-right (inTrailing rs) _ t)) x)
+    e
+
+pub behind-first : (a : ℕ) (c : List ℕ) → isCharacter (a ∷ c) ≡ true → allTrailing c ≡ true
+behind-first a c e = trailing-of rows a c rows-parts e
+
+outside : (lo hi b : ℕ) → (ltb hi 128 || ltb 191 lo) ≡ true → between lo hi b ≡ true → trailing b ≡ false
+outside lo hi b t g =
+    let x = leb-true lo b (and-left (leb lo b) (leb b hi) g) in
+    let y = leb-true b hi (and-right (leb lo b) (leb b hi) g) in
+    or-either (ltb hi 128) (ltb 191 lo)
+    (λ u. let k = ltb-true hi 128 u in rw (lt-leb 128 b (omega arith)))
+    (λ u. let k = ltb-true 191 lo u in rw (lt-leb b 191 (omega arith), and-false (leb 128 b)))
+    t
+
+starts-none : (rs : List Row) (b : ℕ) (l : List ℕ) → parts rs ≡ true → 0 < lengthBy rs (b ∷ l) → trailing b ≡ false
+starts-none [] b l t h = absurd (omega arith)
+starts-none ([] ∷ more) b l t h = absurd (true≢false (sym t))
+starts-none ((r ∷ rs) ∷ more) b l t h =
+    let u = and-right (inTrailing rs) ((ltb (r .1) 128 || ltb 191 (r .0)) && parts more) t in
+    go (between (r .0) (r .1) b) (outside (r .0) (r .1) b (and-left (ltb (r .1) 128 || ltb 191 (r .0)) (parts more) u)) (fits rs l) (starts-none more b l (and-right (ltb (r .1) 128 || ltb 191 (r .0)) (parts more) u)) h
+  where
+    go : (v : Bool) → (v ≡ true → trailing b ≡ false) → (w : Bool) → (0 < lengthBy more (b ∷ l) → trailing b ≡ false) → 0 < cond (v && w) (suc (length rs)) (lengthBy more (b ∷ l)) → trailing b ≡ false
+    go true f w r h = f refl
+    go false f w r h = r h
+
+-- and begin none
+pub sequence-first : (b : ℕ) (l : List ℕ) → 0 < sequenceLength (b ∷ l) → trailing b ≡ false
+unfolding sequenceLength
+sequence-first b l h = starts-none rows b l rows-parts h
+
 -- ---- a byte under 128 is a character by itself
 
 -- no byte is under 128
@@ -166,42 +247,17 @@ abbrev pub high : List ℕ → Bool
 high [] = true
 high (b ∷ c) = leb 128 b && high c
 
--- no range has a byte under 128
-abbrev highRow : Row → Bool
-highRow [] = true
-highRow (r ∷ rs) = leb 128 (r .0) && highRow rs
+trailing-high : (c : List ℕ) → allTrailing c ≡ true → high c ≡ true
+trailing-high [] t = refl
+trailing-high (b ∷ c) t =
+    rw (and-left (leb 128 b) (leb b 191) (and-left (trailing b) (allTrailing c) t)) (trailing-high c (and-right (trailing b) (allTrailing c) t))
 
--- each row has one range, or none with a byte under 128
-abbrev oneOrHigh : List Row → Bool
-oneOrHigh [] = true
-oneOrHigh (row ∷ more) = (eqb (length row) 1 || highRow row) && oneOrHigh more
-
-rows-high : oneOrHigh rows ≡ true
-unfolding rows
-rows-high = refl
-
-high-fits : (row : Row) (c : List ℕ) → highRow row ≡ true → exact row c ≡ true → high c ≡ true
-high-fits row c a e = go row c a (and-left (fits row c) (eqb (length row) (length c)) e) (eqb-true (length row) (length c) (and-right (fits row c) (eqb (length row) (length c)) e))
+several-high : (a b : ℕ) (c : List ℕ) → isCharacter (a ∷ b ∷ c) ≡ true → high (a ∷ b ∷ c) ≡ true
+several-high a b c e = go (decLt a 128)
   where
-    go : (row : Row) (c : List ℕ) → highRow row ≡ true → fits row c ≡ true → length row ≡ length c → high c ≡ true
-    go [] [] a f n = refl
-    go [] (b ∷ c) a f n = absurd (omega arith)
-    go (r ∷ rs) [] a f n = refl
-    go (r ∷ rs) (b ∷ c) a f n =
-        let l = leb-true 128 (r .0) (and-left (leb 128 (r .0)) (highRow rs) a) in
-        let m = leb-true (r .0) b (and-left (leb (r .0) b) (leb b (r .1)) (and-left (between (r .0) (r .1) b) (fits rs c) f)) in
-        rw (le-leb 128 b (omega arith)) (go rs c (and-right (leb 128 (r .0)) (highRow rs) a) (and-right (between (r .0) (r .1) b) (fits rs c) f) (omega arith))
-
-several-high : (rs : List Row) (a b : ℕ) (c : List ℕ) → oneOrHigh rs ≡ true → isOf rs (a ∷ b ∷ c) ≡ true → high (a ∷ b ∷ c) ≡ true
-several-high [] a b c t e = absurd (true≢false (sym e))
-several-high (row ∷ rs) a b c t e =
-    or-either (exact row (a ∷ b ∷ c)) (isOf rs (a ∷ b ∷ c))
-    (λ x. or-either (eqb (length row) 1) (highRow row)
-    (λ y. let m = eqb-true (length row) 1 y in let n = eqb-true (length row) (length (a ∷ b ∷ c)) (and-right (fits row (a ∷ b ∷ c)) _ x) in absurd (omega arith))
-    (λ y. high-fits row (a ∷ b ∷ c) y x)
-    (and-left (eqb (length row) 1 || highRow row) (oneOrHigh rs) t))
-    (λ x. several-high rs a b c (and-right (eqb (length row) 1 || highRow row) (oneOrHigh rs) t) x)
-    e
+    go : Dec (a < 128) → high (a ∷ b ∷ c) ≡ true
+    go (yes h) = absurd (omega (arith, low-sequence a ((b ∷ c) ++ []) h, at-front (a ∷ b ∷ c) [] e))
+    go (no h) = rw (le-leb 128 a (omega arith)) (trailing-high (b ∷ c) (behind-first a (b ∷ c) e))
 
 -- a character is one byte, or several of 128 and more
 pub data Form : List ℕ → Type 0 where
@@ -211,4 +267,4 @@ pub data Form : List ℕ → Type 0 where
 pub form : (c : List ℕ) → isCharacter c ≡ true → Form c
 form [] e = absurd (not-empty e)
 form (b ∷ []) e = one b
-form (a ∷ b ∷ c) e = several a b c (several-high rows a b c rows-high e)
+form (a ∷ b ∷ c) e = several a b c (several-high a b c e)

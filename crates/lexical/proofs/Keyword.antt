@@ -11,17 +11,17 @@ use lib.ListN.{take, drop, take-append-drop}
 use Rattle.source.specs.Bytes.{part}
 use Rattle.source.proofs.Lists.{part-cons}
 use Rattle.token.specs.Code.{Identifier}
-use Rattle.raw_token.specs.Pattern.{beginsName}
 use Rattle.raw_token.specs.Table.{Pattern, literal, int, string, name, float, Entry, table, tokenAt}
 use Rattle.raw_token.specs.declared.RawToken.the-variants.{Found}
-use Rattle.raw_token.proofs.Laws.{all, name-token}
+use Rattle.raw_token.proofs.First.{starts}
+use Rattle.raw_token.proofs.Laws.{all, name-first}
 use Rattle.lexical.specs.Longest.{Longest, Wins}
 use Rattle.lexical.proofs.Longest.{holds, own, own-length, longest-match}
 
 -- the first 19 entries have other codes than a name, and the texts among the others start as no name does
 opens : Pattern → Bool
 opens (literal []) = false
-opens (literal (a ∷ t)) = beginsName a
+opens (literal (a ∷ t)) = starts name a
 opens int = false
 opens string = false
 opens name = false
@@ -61,7 +61,7 @@ module _ (s : List ℕ) (at end : ℕ) (e : tokenAt s at ≡ Found Identifier en
   unfolding opens
   no-other-text m =
       let h = holds (λ c p. not (opens p)) (drop 19 table) others-behind (code, literal t) m in
-      let k = rw (sym is ∙ part-cons s at end (win .some) (win .within), name-token s at end e .1) at h in
+      let k = rw (sym is ∙ part-cons s at end (win .some) (win .within), name-first s at end e) at h in
       true≢false (sym k)
 
   pub keyword-beats-name : List·Memᴰ (code, literal t) table → ⊥

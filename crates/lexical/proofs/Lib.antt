@@ -1,9 +1,11 @@
 pub mod Finds
 pub mod Quoted
+pub mod Characters
+pub mod Names
 pub mod Patterns
 pub mod Longest
 pub mod Keyword
-pub mod Characters
+pub mod WellFormed
 pub mod Boundaries
 pub mod Strings
 pub mod StringTokens

@@ -12,13 +12,14 @@ use borrow.Author.Tests.{eqb-true, eq-eqb}
 use Rattle.source.specs.Bytes.{digit}
 use Rattle.source.proofs.Bools.{and-left, and-right, or-either}
 use Rattle.raw_token.specs.Pattern as P
-use Rattle.raw_token.specs.Pattern.{beginsName, continuesName, isSign, isDot, isE, isPrefix}
+use Rattle.raw_token.specs.Pattern.{isSign, isDot, isE, isPrefix}
 use Rattle.raw_token.specs.Table.{Pattern, literal, int, string, name, float, len}
 use Rattle.raw_token.proofs.First.{starts}
 use Rattle.raw_token.proofs.Within.{len-le}
 use Rattle.lexical.specs.Longest.{Front}
-use Rattle.lexical.specs.Matches.{Int, Fraction, Exponent, Float, Name, Matches}
+use Rattle.lexical.specs.Matches.{Int, Fraction, Exponent, Float, Matches}
 use Rattle.lexical.proofs.Finds.{Apart, Finds, one-cut, one-finds, run-cut, run-finds, seq-cut, seq-finds, and-maybe-finds, maybe-finds}
+use Rattle.lexical.proofs.Names.{name-finds}
 use Rattle.lexical.proofs.Quoted.{string-finds}
 
 -- no digit is a sign, a dot, e or E
@@ -39,7 +40,7 @@ digit-sign b h = go (isSign b) refl
     go true e = absurd (true≢false (sym h ∙ sign-digit b e))
     go false e = refl
 
--- numbers and names
+-- numbers
 
 int-finds : Finds P.int Int (λ (b : ℕ). isSign b || digit b)
 unfolding P.int
@@ -60,10 +61,6 @@ float-finds =
     let within = seq-cut (one-finds isDot) (run-finds digit) (one-cut isDot digit) isE (run-cut digit isE e-digit) in
     and-maybe-finds (seq-finds (run-finds digit) fraction-finds before) exponent-finds
     (seq-cut (run-finds digit) fraction-finds before isE within)
-
-name-finds : Finds P.name Name beginsName
-unfolding P.name
-name-finds = and-maybe-finds (one-finds beginsName) (run-finds continuesName) (one-cut beginsName continuesName)
 
 -- texts
 

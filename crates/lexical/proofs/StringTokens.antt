@@ -32,7 +32,8 @@ use Rattle.lexer.proofs.Promise.{Tokens, indent, dedent, raw, eof, promise}
 use Rattle.lexical.specs.Characters.{isCharacter, areCharacters, bytesOf, characters}
 use Rattle.lexical.specs.Strings.{is, closing, string, ByCharacters}
 use Rattle.lexical.proofs.Characters.{whole, well}
-use Rattle.lexical.proofs.Boundaries.{bytes-append, are-left, are-right, between-characters}
+use Rattle.lexical.proofs.WellFormed.{bytes-append, are-left, are-right}
+use Rattle.lexical.proofs.Boundaries.{between-characters}
 use Rattle.lexical.proofs.Finds.{behind-sum}
 use Rattle.lexical.proofs.Strings.{string-of, decoded-of}
 

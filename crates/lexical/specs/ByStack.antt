@@ -6,7 +6,7 @@ use Prim.Native.Nat.{ℕ, zero, suc}
 use mathlib.Core.Bool.{Bool, true, false, cond, _||_}
 use mathlib.Core.List.{List, [], _∷_, _++_}
 use lib.Dec.{eqb, ltb}
-use lib.ListN.{length, getD, replicate}
+use lib.ListN.{length, replicate}
 use Rattle.source.specs.Bytes.{part}
 use Rattle.token.specs.Code as Code
 use Rattle.tokens.specs.Token.{Token, token}
@@ -66,7 +66,7 @@ unfoldable pub tokenOn : List ℕ → Onward → State → Scan
 tokenOn s on x =
     let start = gapEnd s (x .at) in
     cond (ltb start (length s))
-    (cond (ltb 127 (getD s start 0)) (refused 12 start) (foundOn s on x start (tokenAt s start)))
+    (foundOn s on x start (tokenAt s start))
     (closedOn (length s) x)
 
 -- from a state on, in turns as `scanFrom` has them

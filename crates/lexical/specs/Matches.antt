@@ -1,4 +1,4 @@
--- Which words the patterns of the raw tokens match (01, Raw tokens): nothing here says how long a match is or which one is taken. A word is a
+-- Which words the patterns of the raw tokens match (01, Raw tokens; names: 02, change 1): nothing here says how long a match is or which one is taken. A word is a
 -- list of bytes. A pattern stands for a set of words, made as regular expressions make them.
 -- Assumes nothing.
 use Prim.Native.Nat.{ℕ}
@@ -7,8 +7,10 @@ use mathlib.Core.Bool.{Bool, true, not, _||_}
 use mathlib.Core.List.{List, [], _∷_, _++_}
 use lib.Dec.{eqb}
 use Rattle.source.specs.Bytes.{digit}
+use Rattle.utf8.specs.Character.{codePoint}
 use Rattle.raw_token.specs.Pattern.{beginsName, continuesName, isSign, isDot, isE}
 use Rattle.raw_token.specs.Table.{Pattern, literal, int, string, name, float}
+use Rattle.lexical.specs.Characters.{isCharacter}
 
 -- a set of words
 abbrev pub Words : Type 1
@@ -17,6 +19,10 @@ Words = List ℕ → Type 0
 -- one byte of a class
 pub data Byte (c : ℕ → Bool) : List ℕ → Type 0 where
   byte : (b : ℕ) → c b ≡ true → Byte c (b ∷ [])
+
+-- one character of a class: a well-formed sequence (table 3-7) whose code point is of the class
+pub data Character (c : ℕ → Bool) : List ℕ → Type 0 where
+  character : {w : List ℕ} → isCharacter w ≡ true → c (codePoint w) ≡ true → Character c w
 
 infixl 30 _then_
 infixl 20 _or_
@@ -62,9 +68,9 @@ Exponent = Byte isE then Int
 abbrev pub Float : Words
 Float = Digits then Fraction then Optional Exponent
 
--- "Name: letter or underscore, then letters, digits, underscores"
+-- "A name now begins with an XID_Start character or underscore and continues with XID_Continue" (02, change 1)
 abbrev pub Name : Words
-Name = Byte beginsName then Many (Byte continuesName)
+Name = Character beginsName then Many (Character continuesName)
 
 -- the byte k
 abbrev pub is : ℕ → ℕ → Bool

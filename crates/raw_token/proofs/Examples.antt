@@ -1,10 +1,14 @@
--- What the definition says of short sources of document 01 and of the Python Reference, chapter 2, computed.
+-- What the definition says of short sources of documents 01 and 02 (names) and of the Python Reference, chapter 2, computed.
 -- Assumes nothing.
 use mathlib.Core.Path.{_≡_, refl}
 use mathlib.Core.List.{List, [], _∷_}
 use Prim.Native.Nat.{ℕ}
 use Rattle.source.specs.Text.{bytes}
 use Rattle.token.specs.Code.{If, Bool, Int, String, Identifier, Float, LessEqual, Dot, Newline}
+use Rattle.utf8.specs.Table.{rows, sequenceLength}
+use Rattle.utf8.specs.Character.{firstCode}
+use Rattle.xid.specs.Ranges.{holds}
+use Rattle.xid.specs.Tables.{xidStart, xidContinue}
 use Rattle.raw_token.specs.Pattern as P
 use Rattle.raw_token.specs.Table.{table, tokenAt}
 use Rattle.raw_token.specs.declared.RawToken.{RawToken}
@@ -12,7 +16,7 @@ use Rattle.raw_token.specs.declared.RawToken.the-variants.{Found, NoMatc
 
 -- the token at a place of a text
 says : List ℕ → ℕ → RawToken
-unfolding P.behind P.literal P.name P.int P.exponent P.fraction P.float table tokenAt
+unfolding P.behind P.literal P.name P.int P.exponent P.fraction P.float rows sequenceLength firstCode holds xidStart xidContinue table tokenAt
 says s at = tokenAt s at
 
 -- a float has no leading sign: an Int, then a Dot (01)
@@ -70,10 +74,25 @@ unclosed : (says (bytes "'a") 0 ≡ NoMatch) × (says (bytes "'a\\'") 0 ≡ NoMa
 unfolding says
 unclosed = (refl, refl)
 
--- é, the bytes 195 and 169: no token where it starts one, and free in a string
-accented : (says (97 ∷ 195 ∷ 169 ∷ []) 1 ≡ NoMatch) × (says (39 ∷ 92 ∷ 195 ∷ 169 ∷ 39 ∷ []) 0 ≡ Found String 5)
+-- é, the bytes 195 and 169, begins a name and continues one, and is free in a string
+accented : (says (195 ∷ 169 ∷ []) 0 ≡ Found Identifier 2) × (says (97 ∷ 195 ∷ 169 ∷ []) 0 ≡ Found Identifier 3) × (says (39 ∷ 92 ∷ 195 ∷ 169 ∷ 39 ∷ []) 0 ≡ Found String 5)
 unfolding says
-accented = (refl, refl)
+accented = (refl, refl, refl)
+
+-- no keyword goes on by it
+wide-behind-keyword : says (105 ∷ 102 ∷ 195 ∷ 169 ∷ []) 0 ≡ Found Identifier 4
+unfolding says
+wide-behind-keyword = refl
+
+-- · (U+00B7) continues a name and begins none; € (U+20AC) does neither
+continues-alone : (says (97 ∷ 194 ∷ 183 ∷ []) 0 ≡ Found Identifier 3) × (says (194 ∷ 183 ∷ []) 0 ≡ NoMatch) × (says (97 ∷ 226 ∷ 130 ∷ 172 ∷ []) 0 ≡ Found Identifier 1) × (says (226 ∷ 130 ∷ 172 ∷ []) 0 ≡ NoMatch)
+unfolding says
+continues-alone = (refl, refl, refl, refl)
+
+-- 한 (U+D55C), and 𐀀 (U+10000), of three and of four bytes; a sequence that is cut off is no character
+longer-sequences : (says (237 ∷ 149 ∷ 156 ∷ []) 0 ≡ Found Identifier 3) × (says (97 ∷ 240 ∷ 144 ∷ 128 ∷ 128 ∷ []) 0 ≡ Found Identifier 5) × (says (97 ∷ 237 ∷ 149 ∷ []) 0 ≡ Found Identifier 1)
+unfolding says
+longer-sequences = (refl, refl, refl)
 
 -- a line feed, `!` alone and the end of the source
 others : (says (bytes "a\n") 1 ≡ Found Newline 2) × (says (bytes "!") 0 ≡ NoMatch) × (says (bytes "a") 1 ≡ NoMatch)

@@ -9,7 +9,7 @@ use native.Mathlib.Decide.{ℕ-discrete}
 use mathlib.Core.Logic.{_⊎_, inl, inr}
 use lib.Dec.{eqb, leb}
 use lib.ListN.{length, getD, drop}
-use borrow.Author.Tests.{not-true, eq-eqb, ne-eqb, lt-ltb, le-ltb, leb-true}
+use borrow.Author.Tests.{not-true, eq-eqb, ne-eqb, lt-ltb, le-ltb, leb-true, leb-false}
 use Rattle.source.specs.Bytes.{digit, run}
 use Rattle.token.specs.Code.{Int, String, Identifier, Float}
 use Rattle.source.proofs.Bools.{and-left, and-right, or-left, or-right, or-rest, same}
@@ -18,8 +18,9 @@ use Rattle.source.proofs.Ranges.{at-each}
 use Rattle.raw_token.specs.Pattern as P
 use Rattle.raw_token.specs.Pattern.{beginsName, isSign, isQuote, isPrefix}
 use Rattle.raw_token.specs.Table.{Pattern, literal, name, int, float, string, len, Entry, table, longer, longest, found, tokenAt}
-use Rattle.raw_token.specs.Parts.{keywords, signedAt, numberAt, stringAt, pairAt, onlyAt, wordAt}
-use Rattle.raw_token.proofs.Words.{literals, keywords-words, best-word, name-some, name-run}
+use Rattle.raw_token.specs.Parts.{keywords, asciiBegins, signedAt, numberAt, stringAt, pairAt, onlyAt, wordAt, nameAt}
+use Rattle.raw_token.proofs.Names.{low-character, ascii-begins, name-nil, name-some, name-run}
+use Rattle.raw_token.proofs.Words.{literals, keywords-words, best-word}
 use Rattle.raw_token.proofs.Steps.{behind-none, run-some, maybe-miss, float-none, float-some}
 use Rattle.raw_token.specs.declared.RawToken.the-variants.{Found, NoMatch}
 
@@ -27,7 +28,7 @@ use Rattle.raw_token.specs.declared.RawToken.the-variants.{Found, NoMatc
 abbrev pub starts : Pattern → ℕ → Bool
 starts (literal []) b = false
 starts (literal (a ∷ w)) b = eqb b a
-starts name b = beginsName b
+starts name b = asciiBegins b || leb 128 b
 starts int b = isSign b || digit b
 starts float b = digit b
 starts string b = isQuote b
@@ -37,7 +38,9 @@ pub miss : (p : Pattern) (b : ℕ) (l : List ℕ) → starts p b ≡ false → l
 unfolding P.literal P.name P.int P.float
 miss (literal []) b l h = refl
 miss (literal (a ∷ w)) b l h = rw h
-miss name b l h = rw h
+miss name b l h =
+    let k = leb-false 128 b (or-right (asciiBegins b) (leb 128 b) h) in
+    rw (low-character beginsName b l k, ascii-begins b k, or-left (asciiBegins b) (leb 128 b) h)
 miss int b l h = rw (or-left (isSign b) (digit b) h, or-right (isSign b) (digit b) h) (behind-none 0 0 refl)
 miss float b l h = rw h
 miss string b l h = rw h
@@ -65,6 +68,11 @@ narrow (e ∷ es) best b k l h =
     go true u m a r = r (longer best (e .0) (len (e .1) (b ∷ l))) (and-right u (alike es b k) a)
     go false u m a r =
         rw (m (not-true u (and-left (not u) (alike es b k) a)), longer-none best (e .0)) (r best (and-right (not u) (alike es b k) a))
+
+-- of one entry
+only-one : (at code n : ℕ) → found at (longer (0, 0) code n) ≡ found at (code, n)
+only-one at code zero = refl
+only-one at code (suc n) = rw (lt-ltb 0 (suc n) (omega arith))
 
 -- the token at a place whose byte starts the same entries as k
 module _ (s : List ℕ) (at b k : ℕ) (within : at < length s) (isB : getD s at 0 ≡ b) (a : alike table b k ≡ true) where
@@ -132,11 +140,7 @@ module _ (s : List ℕ) (at b k : ℕ) (within : at < length s) (isB : getD s at
   -- a quote
   pub quoted : keep table k ≡ (String, string) ∷ [] → tokenAt s at ≡ stringAt s at
   unfolding stringAt
-  quoted e = by-byte _ e ∙ go (P.string (drop at s))
-    where
-      go : (n : ℕ) → found at (longer (0, 0) String n) ≡ found at (String, n)
-      go zero = refl
-      go (suc n) = rw (lt-ltb 0 (suc n) (omega arith))
+  quoted e = by-byte _ e ∙ only-one at String (P.string (drop at s))
 
   -- what starts no token
   pub none : keep table k ≡ [] → tokenAt s at ≡ NoMatch
@@ -170,6 +174,10 @@ keep-digit = refl
 keep-name : keep others 95 ≡ (Identifier, name) ∷ []
 unfolding others table
 keep-name = refl
+
+keep-non-ascii : keep table 128 ≡ (Identifier, name) ∷ []
+unfolding table
+keep-non-ascii = refl
 
 keep-none : keep table 0 ≡ []
 unfolding table
@@ -206,13 +214,13 @@ longest-append : (es fs : List Entry) (best : ℕ × ℕ) (l : List ℕ) → lon
 longest-append [] fs best l = refl
 longest-append (e ∷ es) fs best l = longest-append es fs (longer best (e .0) (len (e .1) l)) l
 
--- a letter or an underscore: besides a keyword it starts a name and nothing else
-letter-alike : (b : ℕ) → b < 256 → beginsName b ≡ true → alike others b 95 ≡ true
+-- an ASCII letter or an underscore: besides a keyword it starts a name and nothing else
+letter-alike : (b : ℕ) → b < 256 → asciiBegins b ≡ true → alike others b 95 ≡ true
 unfolding others table
 letter-alike b h t =
-    or-rest (not (beginsName b)) (alike others b 95) (at-each (λ (x : ℕ). not (beginsName x) || alike others x 95) 0 256 tt b zero-le h) (ap not t)
+    or-rest (not (asciiBegins b)) (alike others b 95) (at-each (λ (x : ℕ). not (asciiBegins x) || alike others x 95) 0 256 tt b zero-le h) (ap not t)
 
-module _ (s : List ℕ) (at : ℕ) (within : at < length s) (byte : getD s at 0 < 256) (h : beginsName (getD s at 0) ≡ true) where
+module _ (s : List ℕ) (at : ℕ) (within : at < length s) (byte : getD s at 0 < 256) (h : asciiBegins (getD s at 0) ≡ true) where
   cut-word : drop at s ≡ getD s at 0 ∷ drop (at + 1) s
   cut-word = at-cons s at within
 
@@ -224,7 +232,7 @@ module _ (s : List ℕ) (at : ℕ) (within : at < length s) (byte : getD s at 0 
       ∙ ap (λ (l : List ℕ). longer best Identifier (P.name l)) (sym cut-word)
 
   some-name : (n : ℕ) → P.name (drop at s) ≡ n → n ≡ 0 → ⊥
-  some-name n e z = let q = name-some s at within h in omega arith
+  some-name n e z = omega (arith, name-some s at within h)
 
   pub word : tokenAt s at ≡ wordAt s at
   unfolding tokenAt wordAt
@@ -236,6 +244,16 @@ module _ (s : List ℕ) (at : ℕ) (within : at < length s) (byte : getD s at 0 
       ∙ best-word keywords (drop at s) (P.name (drop at s)) 0 0 keywords-words (name-run s at within h) zero-le)
       ∙ rw (ne-eqb 0 (P.name (drop at s)) (λ e. some-name _ refl (sym e)), ne-eqb (P.name (drop at s)) 0 (some-name _ refl))
 
+-- a byte over 127: it starts a name or nothing
+module _ (s : List ℕ) (at : ℕ) (within : at < length s) (high : 128 ≤ getD s at 0) (byte : getD s at 0 < 256) where
+  non-ascii-alike : alike table (getD s at 0) 128 ≡ true
+  unfolding table
+  non-ascii-alike = at-each (λ (x : ℕ). alike table x 128) 128 128 tt _ high byte
+
+  pub non-ascii : tokenAt s at ≡ nameAt s at
+  unfolding nameAt
+  non-ascii = by-byte s at _ 128 within refl non-ascii-alike ((Identifier, name) ∷ []) keep-non-ascii ∙ only-one at Identifier (P.name (drop at s))
+
 -- what starts no token
 pub nothing : (s : List ℕ) (at : ℕ) → at < length s → alike table (getD s at 0) 0 ≡ true → tokenAt s at ≡ NoMatch
 nothing s at h a = none s at _ 0 h refl a keep-none
@@ -245,7 +263,7 @@ len-nil : (p : Pattern) → len p [] ≡ 0
 unfolding P.literal P.name P.int P.float
 len-nil (literal []) = refl
 len-nil (literal (a ∷ w)) = refl
-len-nil name = refl
+len-nil name = name-nil
 len-nil int = behind-none 0 0 refl
 len-nil float = refl
 len-nil string = refl

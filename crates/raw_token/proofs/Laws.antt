@@ -1,5 +1,5 @@
 -- What a found token is: an entry of the table with its code matches there. The scanner's proofs and the crate lexical cite these laws, and `token-within`
--- of proofs/Within.antt; `int-token`, `float-token` and `newline-token` are promises to people (docs/SENTENCES.md).
+-- of proofs/Within.antt; `int-token`, `float-token`, `newline-token` and `other-character` are promises to people (docs/SENTENCES.md).
 -- Assumes nothing.
 use mathlib.Core.Path.{_≡_, refl, sym, ap, _∙_}
 use mathlib.Core.Bool.{Bool, true, false, cond, not, _&&_, _||_, true≢false}
@@ -13,13 +13,14 @@ use borrow.Author.Tests.{eqb-true, leb-true, le-leb}
 use Rattle.source.specs.Bytes.{between, digit}
 use Rattle.source.proofs.Bools.{and-left, and-right, or-either, or-rest}
 use Rattle.source.proofs.Lists.{at-cons, inside}
-use Rattle.source.proofs.Ranges.{at-each}
+use Rattle.utf8.specs.Character.{firstCode}
 use Rattle.token.specs.Code.{Int, String, Identifier, Float, Dot, Newline}
 use Rattle.raw_token.specs.Pattern as P
 use Rattle.raw_token.specs.Pattern.{beginsName, isSign, isQuote}
 use Rattle.raw_token.specs.Table.{Pattern, literal, int, string, name, float, len, Entry, table, longer, longest, tokenAt}
 use Rattle.raw_token.specs.declared.RawToken.the-variants.{Found, NoMatch}
-use Rattle.raw_token.proofs.First.{starts, miss, alike, single, nothing}
+use Rattle.raw_token.proofs.Names.{name-begins, name-missed}
+use Rattle.raw_token.proofs.First.{starts, miss, single, non-ascii}
 use Rattle.raw_token.proofs.Within.{Best, found-best, token-within}
 
 -- a test holds of each entry
@@ -145,8 +146,17 @@ module _ (s : List ℕ) (at end : ℕ) where
   pub string-token : tokenAt s at ≡ Found String end → (end ≡ at + P.string (drop at s)) × (isQuote (getD s at 0) ≡ true)
   string-token e = kind-token s at String end e (omega arith) (omega arith)
 
-  pub name-token : tokenAt s at ≡ Found Identifier end → (end ≡ at + P.name (drop at s)) × (beginsName (getD s at 0) ≡ true)
-  name-token e = kind-token s at Identifier end e (omega arith) (omega arith)
+  name-kind : tokenAt s at ≡ Found Identifier end → (end ≡ at + P.name (drop at s)) × (starts name (getD s at 0) ≡ true)
+  name-kind e = kind-token s at Identifier end e (omega arith) (omega arith)
+
+  pub name-token : tokenAt s at ≡ Found Identifier end → (end ≡ at + P.name (drop at s)) × (beginsName (firstCode (drop at s)) ≡ true)
+  name-token e =
+      let k = name-kind e .0 in
+      let w = token-within s at Identifier end e .0 in
+      (k, name-begins (drop at s) (omega arith) .1)
+
+  pub name-first : tokenAt s at ≡ Found Identifier end → starts name (getD s at 0) ≡ true
+  name-first e = name-kind e .1
 
   pub float-token : tokenAt s at ≡ Found Float end → (end ≡ at + P.float (drop at s)) × (digit (getD s at 0) ≡ true)
   float-token e = kind-token s at Float end e (omega arith) (omega arith)
@@ -197,7 +207,6 @@ newline-token s at end e =
     let n = newline-at s at b in
     (b, cc)
 
--- a byte over 127 starts no token
-pub high-byte : (s : List ℕ) (at : ℕ) → at < length s → 127 < getD s at 0 → getD s at 0 < 256 → tokenAt s at ≡ NoMatch
-unfolding table
-high-byte s at h k l = nothing s at h (at-each (λ (x : ℕ). alike table x 0) 128 128 tt _ k l)
+-- a character over 127 that begins no name starts no token
+pub other-character : (s : List ℕ) (at : ℕ) → at < length s → 128 ≤ getD s at 0 → getD s at 0 < 256 → beginsName (firstCode (drop at s)) ≡ false → tokenAt s at ≡ NoMatch
+other-character s at h k l b = non-ascii s at h k l ∙ sym (name-missed s at b)

@@ -1,4 +1,5 @@
 pub mod Steps
+pub mod Names
 pub mod Words
 pub mod First
 pub mod Within

@@ -12,9 +12,10 @@ use Rattle.source.specs.Bytes.{digit, run}
 use Rattle.source.proofs.Bools.{and-right}
 use Rattle.source.proofs.Lists.{run-le}
 use Rattle.raw_token.specs.Pattern as P
-use Rattle.raw_token.specs.Pattern.{beginsName, continuesName, behind, one, seq, maybe, andMaybe, isSign, isDot, isE, isQuote, isPrefix, body}
+use Rattle.raw_token.specs.Pattern.{beginsName, continuesName, behind, one, character, many, seq, maybe, andMaybe, isSign, isDot, isE, isQuote, isPrefix, body}
 use Rattle.raw_token.specs.Table.{Pattern, literal, name, int, float, string, len, Entry, table, longer, longest, found, tokenAt}
 use Rattle.raw_token.proofs.Steps.{behind-le}
+use Rattle.raw_token.proofs.Names.{character-le, many-le}
 use Rattle.raw_token.specs.declared.RawToken.the-variants.{Found, NoMatch}
 
 -- a match is no longer than the list
@@ -61,7 +62,7 @@ literal-le w l = go (isPrefix w l) (prefix-le w l)
 
 name-le : Bounded P.name
 unfolding P.name
-name-le = and-maybe-le (one beginsName) (run continuesName) (one-le beginsName) (run-le continuesName)
+name-le = and-maybe-le (character beginsName) (many continuesName) (character-le beginsName) (many-le continuesName)
 
 int-le : Bounded P.int
 unfolding P.int

@@ -1,15 +1,17 @@
--- What the functions behind the first byte find. Only contracts of private functions cite these definitions.
+-- What the functions behind the first byte find. Only contracts of private functions and laws cite these definitions.
 -- Assumes nothing.
-use Prim.Native.Nat.{ℕ, _+_, _*_}
-use mathlib.Core.Bool.{cond, _&&_}
+use Prim.Native.Nat.{ℕ, _+_, _-_, _*_, _%_, _^_}
+use mathlib.Core.Path.{_≡_}
+use mathlib.Core.Bool.{Bool, cond, _&&_, _||_}
 use mathlib.Core.List.{List, [], _∷_}
 use lib.Dec.{eqb}
 use lib.ListN.{length, take, drop}
-use Rattle.source.specs.Bytes.{run, digit}
+use Rattle.source.specs.Bytes.{run, digit, letter}
 use Rattle.token.specs.Code.{Int, String, Identifier, Float}
 use Rattle.raw_token.specs.Pattern as P
 use Rattle.raw_token.specs.Pattern.{isPrefix}
 use Rattle.raw_token.specs.Table.{Pattern, literal, int, string, name, float, Entry, table, found}
+use Rattle.raw_token.specs.declared.word.Spelling.{Spelling}
 use Rattle.raw_token.specs.declared.RawToken.{RawToken}
 use Rattle.raw_token.specs.declared.RawToken.the-variants.{Found, NoMatch}
 
@@ -30,24 +32,40 @@ texts (e ∷ es) = (e .0, textOf (e .1)) ∷ texts es
 unfoldable pub keywords : List (ℕ × List ℕ)
 keywords = texts (take 19 table)
 
--- bytes as the digits of a number to the base 256, the first the lowest
-abbrev pub pack : List ℕ → ℕ
-pack [] = 0
-pack (b ∷ l) = b + 256 * pack l
+-- bytes as the digits of a number to the base 256, the first the highest, behind the number n
+abbrev pub pack : ℕ → List ℕ → ℕ
+pack n [] = n
+pack n (b ∷ l) = pack (n * 256 + b) l
 
 -- the code whose word has the number n, or a name's
 abbrev pub codeOf : List (ℕ × List ℕ) → ℕ → ℕ
 codeOf [] n = Identifier
-codeOf (e ∷ es) n = cond (eqb n (pack (e .1))) (e .0) (codeOf es n)
+codeOf (e ∷ es) n = cond (eqb n (pack 0 (e .1))) (e .0) (codeOf es n)
 
 -- the code of the word that is the whole of the first n bytes of l, or a name's
 abbrev pub wordCode : List (ℕ × List ℕ) → List ℕ → ℕ → ℕ
 wordCode [] l n = Identifier
 wordCode (e ∷ es) l n = cond (isPrefix (e .1) l && eqb (length (e .1)) n) (e .0) (wordCode es l n)
 
--- a keyword or a name
+-- the ASCII characters that begin a name, and those that continue one (proofs/Names.antt, `ascii-begins`, `ascii-continues`)
+abbrev pub asciiBegins : ℕ → Bool
+asciiBegins b = letter b || eqb b 95
+
+abbrev pub asciiContinues : ℕ → Bool
+asciiContinues b = asciiBegins b || digit b
+
+-- r is where the ASCII characters that continue a name end, from `at` on, and the number of the last eight of them
+pub record Spelt (s : List ℕ) (at : ℕ) (r : Spelling) : Type 0 where
+  pub end-is : r .end ≡ at + run asciiContinues (drop at s)
+  pub number-is : r .number ≡ pack 0 (take (r .end - at) (drop at s)) % 2 ^ 64
+
+-- a keyword or a name, where an ASCII character begins it
 unfoldable pub wordAt : List ℕ → ℕ → RawToken
 wordAt s at = Found (wordCode keywords (drop at s) (P.name (drop at s))) (at + P.name (drop at s))
+
+-- a name or nothing
+unfoldable pub nameAt : List ℕ → ℕ → RawToken
+nameAt s at = found at (Identifier, P.name (drop at s))
 
 -- a sign and digits, or the sign alone, with the code op
 unfoldable pub signedAt : List ℕ → ℕ → ℕ → RawToken

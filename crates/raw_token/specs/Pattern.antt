@@ -1,4 +1,4 @@
--- The patterns of the raw tokens (01, Raw tokens). Each is a function of a list of bytes: the length of its longest match at the front, and 0
+-- The patterns of the raw tokens (01, Raw tokens; names: 02, change 1). Each is a function of a list of bytes: the length of its longest match at the front, and 0
 -- where it has none. No pattern matches the empty list of bytes, so 0 says nothing else.
 -- Assumes nothing.
 use Prim.Native.Nat.{ℕ, zero, suc, _+_}
@@ -6,17 +6,18 @@ use mathlib.Core.Bool.{Bool, true, false, cond, _&&_, _||_}
 use mathlib.Core.List.{List, [], _∷_}
 use lib.Dec.{eqb}
 use lib.ListN.{length, drop}
-use Rattle.source.specs.Bytes.{between, digit, run}
+use Rattle.source.specs.Bytes.{digit, run}
+use Rattle.utf8.specs.Table.{sequenceLength}
+use Rattle.utf8.specs.Character.{firstCode}
+use Rattle.xid.specs.Classes.{isStart, isContinue}
 
--- "Name: letter or underscore, then letters, digits, underscores, ASCII here". What makes a name is said by these two alone, of a character's
--- number, which for ASCII is its byte: to widen names to Unicode is to widen them.
+-- "A name now begins with an XID_Start character or underscore and continues with XID_Continue" (02, change 1). A character is its code point.
 
--- a to z, A to Z, underscore
 abbrev pub beginsName : ℕ → Bool
-beginsName c = between 97 122 c || between 65 90 c || eqb c 95
+beginsName c = isStart c || eqb c 95
 
 abbrev pub continuesName : ℕ → Bool
-continuesName c = beginsName c || digit c
+continuesName c = isContinue c
 
 -- + and -
 abbrev pub isSign : ℕ → Bool
@@ -44,6 +45,19 @@ abbrev pub one : (ℕ → Bool) → List ℕ → ℕ
 one p [] = 0
 one p (b ∷ l) = cond (p b) 1 0
 
+-- one character of a class: the bytes of the well-formed sequence at the front, where its code point is of the class. Where no such sequence begins, 0
+abbrev pub character : (ℕ → Bool) → List ℕ → ℕ
+character p l = cond (p (firstCode l)) (sequenceLength l) 0
+
+-- characters of a class one after the other, n of them at most; where none is left, each further one adds 0
+abbrev pub atMost : ℕ → (ℕ → Bool) → List ℕ → ℕ
+atMost zero p l = 0
+atMost (suc n) p l = character p l + atMost n p (drop (character p l) l)
+
+-- as many characters of a class as stand at the front: no list has more than it has bytes
+abbrev pub many : (ℕ → Bool) → List ℕ → ℕ
+many p l = atMost (length l) p l
+
 -- p and then q
 abbrev pub seq : (List ℕ → ℕ) → (List ℕ → ℕ) → List ℕ → ℕ
 seq p q l = cond (eqb (p l) 0) 0 (behind (p l) (q (drop (p l) l)))
@@ -66,9 +80,9 @@ isPrefix (a ∷ w) (b ∷ l) = eqb b a && isPrefix w l
 unfoldable pub literal : List ℕ → List ℕ → ℕ
 literal w l = cond (isPrefix w l) (length w) 0
 
--- "Name: letter or underscore, then letters, digits, underscores"
+-- "Name": a character that begins one, then characters that continue it (02, change 1)
 unfoldable pub name : List ℕ → ℕ
-name = andMaybe (one beginsName) (run continuesName)
+name = andMaybe (character beginsName) (many continuesName)
 
 -- "Int: optional sign, digits"
 unfoldable pub int : List ℕ → ℕ

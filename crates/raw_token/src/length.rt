@@ -3,23 +3,9 @@ ghost use mathlib.Core.Path.{_≡_};
 ghost use mathlib.Core.Bool.{true};
 ghost use Prim.Native.Nat.{_+_, _^_, _<_};
 ghost use lib.ListN.{length, getD};
-ghost use Rattle.source.specs.Bytes.{run, Len};
+ghost use Rattle.source.specs.Bytes.{Len};
 ghost use Rattle.raw_token.specs.Pattern as Pattern;
-ghost use Rattle.raw_token.specs.Pattern.{beginsName, continuesName, name, fraction, exponent, int, string, isQuote};
-
-// What a name begins with: a letter or an underscore.
-fn begins_name(c: u8) -> bool
-    ensures { λ r. ⌜ r ≡ beginsName c ⌝ }
-{
-    ((b'a' <= c) & (c <= b'z')) | ((b'A' <= c) & (c <= b'Z')) | (c == b'_')
-}
-
-// What a name goes on with: a letter, a digit or an underscore.
-fn continues_name(c: u8) -> bool
-    ensures { λ r. ⌜ r ≡ continuesName c ⌝ }
-{
-    begins_name(c) | source::is_digit(c)
-}
+ghost use Rattle.raw_token.specs.Pattern.{fraction, exponent, int, string, isQuote};
 
 // k and n more, and 0 where n is 0.
 fn behind(k: usize, n: usize) -> usize
@@ -27,32 +13,6 @@ fn behind(k: usize, n: usize) -> usize
     ensures { λ r. ⌜ r ≡ Pattern.behind k n ⌝ }
 {
     if n == 0 { 0 } else { k + n }
-}
-
-// How many characters that continue a name stand at `at`.
-fn continuation_len(s: &[u8], at: usize) -> usize
-    ensures { λ r. ⌜ Len (run continuesName) (now (s .entry)) at r ⌝ }
-{
-    let mut i = at;
-    while i < s.len() {
-        if continues_name(s[i]) {
-            i += 1;
-        } else {
-            return i - at;
-        }
-    }
-    i - at
-}
-
-// The length of a name.
-pub(crate) fn name_len(s: &[u8], at: usize) -> usize
-    ensures { λ r. ⌜ Len name (now (s .entry)) at r ⌝ }
-{
-    if begins_name(source::byte(s, at)) {
-        1 + continuation_len(s, at + 1)
-    } else {
-        0
-    }
 }
 
 // The length of a dot and digits.

@@ -2,15 +2,16 @@
 // behind it finds one kind of token, by a contract of its own, and the laws of proofs/First.antt join the two.
 ghost use mathlib.Core.Path.{_≡_};
 ghost use mathlib.Core.Bool.{true};
-ghost use Prim.Native.Nat.{_+_, _^_, _≤_, _<_};
-ghost use lib.ListN.{length, getD, take, drop};
+ghost use Prim.Native.Nat.{_+_, _^_, _<_};
+ghost use lib.ListN.{length, getD};
 ghost use Rattle.source.specs.Bytes.{digit};
-ghost use Rattle.raw_token.specs.Pattern.{beginsName, isQuote};
+ghost use Rattle.raw_token.specs.Pattern.{isQuote};
 ghost use Rattle.raw_token.specs.Table.{tokenAt};
-ghost use Rattle.raw_token.specs.Parts.{keywords, pack, codeOf, wordAt, signedAt, numberAt, stringAt, pairAt, onlyAt};
+ghost use Rattle.raw_token.specs.Parts.{signedAt, numberAt, stringAt, pairAt, onlyAt};
 ghost use Rattle.raw_token.specs.declared.RawToken.the-variants as variants;
 
-mod length; // length.rt: the lengths of names, numbers and strings
+mod length; // length.rt: the lengths of numbers and strings
+mod word; // word.rt: keywords and names
 
 pub enum RawToken {
     Found { code: u32, end: usize },
@@ -114,71 +115,6 @@ fn only_pair(s: &[u8], at: usize, second: u8, two: u32) -> RawToken
     }
 }
 
-fn wide(b: u8) -> u64
-    ensures { λ r. ⌜ r ≡ b ⌝ }
-{
-    b as u64
-}
-
-// The number of a word of at most 8 bytes, the first byte the lowest digit to the base 256.
-fn packed(s: &[u8], at: usize, len: usize) -> u64
-    requires { ⌜ (at + len ≤ length (now s)) × (len ≤ 8) ⌝ }
-    ensures { λ r. ⌜ r ≡ pack (take len (drop at (now (s .entry)))) ⌝ }
-{
-    let mut n: u64 = 0;
-    let mut k = len;
-    while 0 < k {
-        k -= 1;
-        n = n * 256 + wide(s[at + k]);
-    }
-    n
-}
-
-// The code of the keyword with the number n, or a name's. Read from the right, two digits each, the number is the keyword's letters.
-fn keyword(n: u64) -> u32
-    ensures { λ r. ⌜ r ≡ codeOf keywords n ⌝ }
-{
-    match n {
-        0x6669 => token::IF,
-        0x66696c65 => token::ELIF,
-        0x65736c65 => token::ELSE,
-        0x656c696877 => token::WHILE,
-        0x726f66 => token::FOR,
-        0x6e69 => token::IN,
-        0x666564 => token::DEF,
-        0x6e7275746572 => token::RETURN,
-        0x646e61 => token::AND,
-        0x726f => token::OR,
-        0x746f6e => token::NOT,
-        0x7373616c63 => token::CLASS,
-        0x6b61657262 => token::BREAK,
-        0x65756e69746e6f63 => token::CONTINUE,
-        0x73736170 => token::PASS,
-        0x6164626d616c => token::LAMBDA,
-        0x656e6f4e => token::NONE,
-        0x65757254 => token::BOOL,
-        0x65736c6146 => token::BOOL,
-        _ => token::IDENTIFIER,
-    }
-}
-
-// What begins as a name does: a keyword or a name. No keyword is longer than 8 bytes.
-fn word(s: &[u8], at: usize) -> RawToken
-    requires { ⌜ (at < length (now s)) × (beginsName (getD (now s) at 0) ≡ true) ⌝ }
-    ensures { λ r. ⌜ r ≡ wordAt (now (s .entry)) at ⌝ }
-{
-    let n = length::name_len(s, at);
-    if n <= 8 {
-        let code = keyword(packed(s, at, n));
-        RawToken::Found { code, end: at + n }
-    } else {
-        RawToken::Found {
-            code: token::IDENTIFIER,
-            end: at + n,
-        }
-    }
-}
-
 // The token at the place `at`: the first byte says which function finds it.
 pub fn token_at(s: &[u8], at: usize) -> RawToken
     ensures { λ r. ⌜ r ≡ tokenAt (now (s .entry)) at ⌝ }
@@ -188,32 +124,34 @@ pub fn token_at(s: &[u8], at: usize) -> RawToken
     }
     let b = s[at];
     match b {
-        b'a'..=b'z' => word(s, at),
-        b'A'..=b'Z' => word(s, at),
-        b'_' => word(s, at),
-        b'0'..=b'9' => number(s, at),
-        b'"' => quoted(s, at),
-        b'\'' => quoted(s, at),
-        b'+' => signed(s, at, token::PLUS),
-        b'-' => signed(s, at, token::MINUS),
-        b'/' => pair(s, at, b'/', token::SLASH_SLASH, token::SLASH),
-        b'=' => pair(s, at, b'=', token::EQUAL_EQUAL, token::EQUAL),
-        b'<' => pair(s, at, b'=', token::LESS_EQUAL, token::LESS),
-        b'>' => pair(s, at, b'=', token::GREATER_EQUAL, token::GREATER),
-        b'!' => only_pair(s, at, b'=', token::NOT_EQUAL),
-        b'*' => mark(at, token::STAR),
-        b'%' => mark(at, token::PERCENT),
-        b'(' => mark(at, token::LPAREN),
-        b')' => mark(at, token::RPAREN),
-        b'[' => mark(at, token::LBRACKET),
-        b']' => mark(at, token::RBRACKET),
-        b'{' => mark(at, token::LBRACE),
-        b'}' => mark(at, token::RBRACE),
-        b':' => mark(at, token::COLON),
-        b',' => mark(at, token::COMMA),
-        b';' => mark(at, token::SEMICOLON),
-        b'.' => mark(at, token::DOT),
-        b'\n' => mark(at, token::NEWLINE),
-        _ => RawToken::NoMatch,
+        b'a'..=b'z' => {}
+        b'A'..=b'Z' => {}
+        b'_' => {}
+        0x80..=0xFF => return word::name(s, at),
+        b'0'..=b'9' => return number(s, at),
+        b'"' => return quoted(s, at),
+        b'\'' => return quoted(s, at),
+        b'+' => return signed(s, at, token::PLUS),
+        b'-' => return signed(s, at, token::MINUS),
+        b'/' => return pair(s, at, b'/', token::SLASH_SLASH, token::SLASH),
+        b'=' => return pair(s, at, b'=', token::EQUAL_EQUAL, token::EQUAL),
+        b'<' => return pair(s, at, b'=', token::LESS_EQUAL, token::LESS),
+        b'>' => return pair(s, at, b'=', token::GREATER_EQUAL, token::GREATER),
+        b'!' => return only_pair(s, at, b'=', token::NOT_EQUAL),
+        b'*' => return mark(at, token::STAR),
+        b'%' => return mark(at, token::PERCENT),
+        b'(' => return mark(at, token::LPAREN),
+        b')' => return mark(at, token::RPAREN),
+        b'[' => return mark(at, token::LBRACKET),
+        b']' => return mark(at, token::RBRACKET),
+        b'{' => return mark(at, token::LBRACE),
+        b'}' => return mark(at, token::RBRACE),
+        b':' => return mark(at, token::COLON),
+        b',' => return mark(at, token::COMMA),
+        b';' => return mark(at, token::SEMICOLON),
+        b'.' => return mark(at, token::DOT),
+        b'\n' => return mark(at, token::NEWLINE),
+        _ => return RawToken::NoMatch,
     }
+    word::word(s, at)
 }

@@ -1,4 +1,4 @@
--- What follows of every outcome: its counts are the descent's and within the limits, it agrees with the trial, and 14 stands at the earliest misfit.
+-- What follows of every outcome: its counts are the descent's and within the limits, it agrees with the trial, 14 stands at the earliest misfit, and none is 12.
 -- Assumes nothing.
 use mathlib.Core.Path.{_≡_, refl, sym, ap, _∙_, subst}
 use mathlib.Core.Bool.{Bool, true, false, cond, _&&_}
@@ -38,7 +38,7 @@ use Rattle.reader.proofs.Filled.{area-front, area-records, length-recor
 
 -- the fields of `Reads` that follow, for an answer and the areas of text and tree, where the token list is x
 record Follows (src : List ℕ) (x : Scan) (r : Answer) (text tree : Area) : Type 0 where
-  counts : countsOf r ≡ cond (refusedBy 12 (numbersOf r .number)) nothing (descentCounts src x)
+  counts : countsOf r ≡ cond (refusedBy 11 (numbersOf r .number)) nothing (descentCounts src x)
   shown : eqb (numbersOf r .number) 0 ≡ false → (numbersOf r .nodes ≡ 0) × (numbersOf r .text ≡ 0)
   few-openings : numbersOf r .openings ≤ 10 * numbersOf r .tokens + 1
   few-nodes : written r ≤ 2 * numbersOf r .tokens + 1
@@ -49,12 +49,13 @@ record Follows (src : List ℕ) (x : Scan) (r : Answer) (text tree : Area) : Typ
   words : numbersOf r .number ≡ 0 → (tree₀ : List ℕ) → take (8 * numbersOf r .nodes) (drop 8 (after tree (treeArea (length src)) tree₀)) ≡ records (nodesIn (trialOf src x))
   decoded : numbersOf r .number ≡ 0 → (text₀ : List ℕ) → take (numbersOf r .text) (after text (length src) text₀) ≡ textBytes x
   earliest : numbersOf r .number ≡ 14 → EarliestOf src x (numbersOf r .place)
+  never-12 : numbersOf r .number ≡ 12 → ⊥
 
 -- a refusal before the descent
-early : (src : List ℕ) (x : Scan) (number place : ℕ) (text tree : Area) → 1 ≤ number → number ≤ 12 → Follows src x (No number place) text tree
+early : (src : List ℕ) (x : Scan) (number place : ℕ) (text tree : Area) → 1 ≤ number → number ≤ 11 → Follows src x (No number place) text tree
 early src x number place text tree least most =
     let a : leb 1 number ≡ true = le-leb 1 number least in
-    let b : leb number 12 ≡ true = le-leb number 12 most in
+    let b : leb number 11 ≡ true = le-leb number 11 most in
     let c : leb number 13 ≡ true = le-leb number 13 (omega arith) in
     record {
       counts = rw (a, b);
@@ -68,6 +69,7 @@ early src x number place text tree least most =
       words = λ e. absurd (omega arith);
       decoded = λ e. absurd (omega arith);
       earliest = λ e. absurd (omega arith);
+      never-12 = λ e. omega arith;
     }
 
 module _ (src : List ℕ) (ts : List Token) (bs : List ℕ) (is : tokenList src ≡ scanned ts bs) where
@@ -111,6 +113,7 @@ module _ (src : List ℕ) (ts : List Token) (bs : List ℕ) (is : tokenList src 
             ∙ ap (λ (x : Tried). records (nodesIn x)) (sym t);
         decoded = λ _ text₀. area-front (length src) (length bs) bs text₀ refl;
         earliest = λ f. absurd (omega arith);
+        never-12 = λ f. omega arith;
       }
   late (TooDeep place w) e =
       let l = common (TooDeep place w) e in
@@ -126,6 +129,7 @@ module _ (src : List ℕ) (ts : List Token) (bs : List ℕ) (is : tokenList src 
         words = λ f. absurd (omega arith);
         decoded = λ f. absurd (omega arith);
         earliest = λ f. absurd (omega arith);
+        never-12 = λ f. omega arith;
       }
   late (Misfit place w) e =
       let t : trial src ts ≡ Fails = agreement.refuses src ts place w e in
@@ -142,6 +146,7 @@ module _ (src : List ℕ) (ts : List Token) (bs : List ℕ) (is : tokenList src 
         words = λ f. absurd (omega arith);
         decoded = λ f. absurd (omega arith);
         earliest = λ _. script-earliest src ts bs is place w e;
+        never-12 = λ f. omega arith;
       }
 
 abbrev Of : List ℕ → Outcome → Type 0
@@ -158,7 +163,7 @@ of-all : (src : List ℕ) (tokens text tree : ℕ) → Of src (outcome src token
 unfolding outcome
 of-all src tokens text tree = go (ltb 65536 (length src)) (ltb tokens (tokenArea (length src))) (ltb text (length src)) (ltb tree (treeArea (length src))) (utf8Error src)
   where
-    no : (number place : ℕ) → 1 ≤ number → number ≤ 12 → Of src (untouched number place)
+    no : (number place : ℕ) → 1 ≤ number → number ≤ 11 → Of src (untouched number place)
     no number place h k = early src (tokenList src) number place _ _ h k
 
     go : (a b c d : Bool) (u : Utf8) → Of src (cond a (untouched 1 0) (cond b (untouched 2 0) (cond c (untouched 3 0) (cond d (untouched 4 0) (ofUtf8 src u)))))
@@ -168,6 +173,10 @@ of-all src tokens text tree = go (ltb 65536 (length src)) (ltb tokens (tokenArea
     go false false false true u = no 4 0 (omega arith) (omega arith)
     go false false false false (IllFormed place) = no 5 place (omega arith) (omega arith)
     go false false false false WellFormed = of-scan src
+
+-- "so 12 never occurs from here on": no source, in slices of any lengths, is answered by it
+pub no-answer-12 : (src : List ℕ) (tokens text tree : ℕ) → numbersOf (outcome src tokens text tree .answer) .number ≡ 12 → ⊥
+no-answer-12 src tokens text tree = of-all src tokens text tree .never-12
 
 -- all that is promised, from what the answer is and what the slices hold
 pub promised : (src tokens₀ text₀ tree₀ : List ℕ) {o : Outcome} {r : Answer} {tokens text tree : List ℕ} → outcome src (length tokens₀) (length text₀) (length tree₀) ≡ o → r ≡ o .answer
@@ -193,6 +202,7 @@ promised src tokens₀ text₀ tree₀ {o} {r} is e p q s =
         decoded = ap (take (numbersOf r .text)) q ∙ f .decoded z text₀;
       };
       earliest = f .earliest;
+      never-12 = f .never-12;
     }
   where
     f : Follows src (tokenList src) r (o .text) (o .tree)

@@ -75,7 +75,7 @@ ofDescent n ts bs (Accepted w) = accepted n ts bs w
 ofDescent n ts bs (TooDeep place w) = stopped 13 place w
 ofDescent n ts bs (Misfit place w) = stopped 14 place w
 
--- "Then the earliest in the source": 6 to 12
+-- "Then the earliest in the source": 6 to 11
 abbrev pub ofScan : List ℕ → Scan → Outcome
 ofScan src (refused number place) = cleared (No number place)
 ofScan src (scanned ts bs) = ofDescent (length src) ts bs (descent src ts)

@@ -80,8 +80,8 @@ pub record Reads (src : List ℕ) (r : Answer) (tokens₀ text₀ tree₀ tokens
   -- "Counts are 0, but 13 and 14 give T and openings": a refusal shows 0 for N and for the bytes of text
   pub shown : eqb (numbersOf r .number) 0 ≡ false → (numbersOf r .nodes ≡ 0) × (numbersOf r .text ≡ 0)
   -- "Program hands back its openings and its nodes written, in a refusal as well": T, openings and nodes written are the descent's. "Where a question
-  -- before 13 says no, the descent doesn't begin, and T and both counts are 0"
-  pub counts : countsOf r ≡ cond (refusedBy 12 (numbersOf r .number)) nothing (descentCounts src (tokenList src))
+  -- before 13 says no, the descent doesn't begin, and T and both counts are 0": these are 1 to 11, since 12 never says it
+  pub counts : countsOf r ≡ cond (refusedBy 11 (numbersOf r .number)) nothing (descentCounts src (tokenList src))
   -- openings at most 10 × T + 1 and nodes at most 2 × T + 1, refusals included; "T is at most n", and so is the text
   pub few-openings : numbersOf r .openings ≤ 10 * numbersOf r .tokens + 1
   pub few-nodes : written r ≤ 2 * numbersOf r .tokens + 1
@@ -93,3 +93,5 @@ pub record Reads (src : List ℕ) (r : Answer) (tokens₀ text₀ tree₀ tokens
   pub alike : numbersOf r .number ≡ 0 → Alike src (numbersOf r .nodes) (numbersOf r .text) text tree
   -- "Then the earliest token: .. 14 does it fit the grammar? (its start; Eof is n)"
   pub earliest : numbersOf r .number ≡ 14 → EarliestOf src (tokenList src) (numbersOf r .place)
+  -- "so 12 never occurs from here on" (02, change 1)
+  pub never-12 : numbersOf r .number ≡ 12 → ⊥

@@ -1,4 +1,4 @@
-// The reader of a source (src/lib.rs, `parse_source`): the fourteen questions in their order, of which the first no decides, over a source and three lent slices.
+// The reader of a source (src/lib.rs, `parse_source`): the questions 1 to 14 in their order, 12 no more among them, of which the first no decides, over a source and three lent slices.
 //
 // The areas are the fronts of the slices: for a source of n bytes 3(n+1) words of tokens, n bytes of text and 16n+16 words of tree. `parse_source` lends
 // the areas alone to what works in them, so what lies beyond stays. Nothing is cleared before the work: each word of an area is written by it, or is
@@ -28,7 +28,7 @@ pub enum Answer {
         text: usize,
         openings: usize,
     },
-    // Refused by a question of 1 to 12, before the descent begins.
+    // Refused by a question of 1 to 11, before the descent begins; 12 is no answer any more (02, change 1).
     No {
         number: u32,
         place: usize,
@@ -135,7 +135,7 @@ fn read_tokens(
     }
 }
 
-// Questions 6 to 12, in slices that are the areas: the scanner leaves zeros in those of tokens and text.
+// Questions 6 to 11, in slices that are the areas: the scanner leaves zeros in those of tokens and text.
 fn read_areas(src: &[u8], tokens: &mut [u32], text: &mut [u8], tree: &mut [u32]) -> Answer
     requires { ⌜ Exact (now src) (now tokens) (now text) (now tree) ⌝ }
     ensures { λ r. ⌜ Fills (ofScan (now (src .entry)) (tokenList (now (src .entry)))) (length (now (src .entry))) r (now (tokens .exit)) (now (text .exit)) (now (tree .exit)) ⌝ }

@@ -2,7 +2,7 @@
 -- Assumes nothing.
 use Prim.Native.Nat.{ℕ, suc, _-_, _≤_}
 use mathlib.Core.Path.{_≡_}
-use mathlib.Core.Bool.{Bool, cond, _&&_}
+use mathlib.Core.Bool.{Bool, cond, _&&_, _||_}
 use mathlib.Core.List.{List, [], _∷_}
 use lib.Dec.{leb}
 use lib.ListN.{length, take, drop}
@@ -14,6 +14,10 @@ between lo hi b = leb lo b && leb b hi
 -- 0 to 9
 abbrev pub digit : ℕ → Bool
 digit b = between 48 57 b
+
+-- a to z, A to Z
+abbrev pub letter : ℕ → Bool
+letter b = between 97 122 b || between 65 90 b
 
 -- how many bytes of the class p stand at the front
 abbrev pub run : (ℕ → Bool) → List ℕ → ℕ

@@ -5,7 +5,7 @@ use mathlib.Core.Bool.{Bool, true, false, _||_}
 use Prim.Native.Nat.{ℕ, _<_, zero-le}
 use lib.Dec.{eqb}
 use borrow.Author.Tests.{not-true}
-use Rattle.source.specs.Bytes.{between, digit}
+use Rattle.source.specs.Bytes.{digit, letter}
 use Rattle.source.proofs.Bools.{same}
 use Rattle.source.proofs.Ranges.{at-each}
 use Rattle.xid.specs.Ranges.{holds}
@@ -17,9 +17,6 @@ alike true b e = e
 alike false b e = not-true b e
 
 -- a to z, A to Z
-abbrev pub letter : ℕ → Bool
-letter c = between 97 122 c || between 65 90 c
-
 pub ascii-start : (c : ℕ) → c < 128 → isStart c ≡ letter c
 unfolding holds xidStart
 ascii-start c h = alike (letter c) (isStart c) (at-each (λ (x : ℕ). same (letter x) (isStart x)) 0 128 tt c zero-le h)

@@ -1,11 +1,11 @@
--- `raw_token::keyword` meets its contract: at each key the code computes, and elsewhere the number is no word's.
+-- `raw_token::word::keyword` meets its contract: at each key the code computes, and elsewhere the number is no word's.
 -- Assumes nothing.
 use mathlib.Core.Path.{sym}
 use Rattle.raw_token.specs.Table.{table}
 use Rattle.raw_token.specs.Parts.{keywords}
 use Rattle.raw_token.proofs.Words.{no-code}
-use Rattle.raw_token.proofs.keyword.Statement.{statement}
-use Rattle.raw_token.proofs.keyword.Tie as tie
+use Rattle.raw_token.proofs.word.keyword.Statement.{statement}
+use Rattle.raw_token.proofs.word.keyword.Tie as tie
 
 returns : tie.Need-returns
 unfolding keywords table
