@@ -7,6 +7,8 @@ pub mod Longest
 pub mod Keyword
 pub mod WellFormed
 pub mod Boundaries
+pub mod Ends
+pub mod Nine
 pub mod Strings
 pub mod StringTokens
 pub mod StringExamples
