@@ -6,7 +6,8 @@
  * bound_tokens checks that the source is UTF-8, writes its tokens, and writes zeros behind them and over the areas of text and tree: each cell once, as
  * the reader does. On a source that the reader accepts, the tokens are the reader's, word for word; the driver holds them against each other before
  * it times anything. The rest of the reader's work is left out: no text, no header and no node are written, and no literal's value is read. A source
- * that is not UTF-8 is the only one it refuses; of others that the reader refuses it makes some tokens, which fit into the area too. */
+ * that is not UTF-8 is the only one it refuses; of others that the reader refuses it makes some tokens, which fit into the area too. No character's class is
+ * looked up: each byte above 127 is taken for a letter, which is right where the reader accepts. */
 #include <stdbool.h>
 #include <stddef.h>
 #include <stdint.h>
@@ -58,6 +59,7 @@ static const struct row ROWS[256] = {
     ['A' ... 'Z'] = {LETTER, 0, 0, 0},
     ['_'] = {LETTER, 0, 0, 0},
     ['0' ... '9'] = {DIGIT, 0, 0, 0},
+    [128 ... 255] = {LETTER, 0, 0, 0},
 };
 
 /* The keywords, each in a slot of its own. The bytes behind a short one are 0. */

@@ -17,7 +17,7 @@ def one_pass(sources):
 def main():
     folder, passes = Path(sys.argv[1]), int(sys.argv[2])
     gc.disable()
-    sets = {one.name: [path.read_text() for path in sorted(one.glob("*.py"))] for one in sorted(folder.iterdir())}
+    sets = {one.name: [path.read_text(encoding="utf8") for path in sorted(one.glob("*.py"))] for one in sorted(folder.iterdir())}
     # The sets take turns, so that load falls on all.
     times = [[one_pass(sources) for sources in sets.values()] for _ in range(passes)]
     for name, best in zip(sets, map(min, zip(*times))):

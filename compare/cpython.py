@@ -7,12 +7,18 @@ Each source of python_sources.py is read by CPython, whose nodes and tokens pyth
 the static library. All words of all N records, the text, T, N and all of the answer and the header but the openings must be the same. It prints what
 was compared and the shortest sources that differ; the exit status is 1 where there is one.
 
+    python3 compare/cpython.py --reference [--count N] [--seed S]
+
+compares tools/reference in the same way, the reader in Python from which other stored cases are made, and wants no library.
+
     python3 compare/cpython.py --cases crates/python_cases
 
 writes the fixed sample that `rt check python_cases` replays, with what CPython says of it. This runs no program of this repository.
 """
 import argparse
 import collections
+import functools
+import importlib
 import os
 import platform
 import struct
@@ -25,6 +31,7 @@ from python_tree import KIND, KINDS, OPERATORS, Tree
 
 HERE = os.path.dirname(os.path.abspath(__file__))
 ROOT = os.path.dirname(HERE)
+
 BATCH = 1000
 # Departures of 01 from the Reference that CPython's `ast` reads: each run tries first that these are seen as different.
 DEPARTURES = [
@@ -60,6 +67,23 @@ def read_all(driver, batch):
         yield answer, words[:8], [list(words[i:i + 8]) for i in range(8, len(words), 8)], reply[at:at + answer[4]]
         at += answer[4]
     assert at == len(reply)
+
+
+@functools.cache
+def reference():
+    """The module of tools/reference that reads a source. The stored cases are made without it."""
+    sys.path.insert(0, os.path.join(ROOT, "tools", "reference"))
+    return importlib.import_module("read")
+
+
+def read_by_reference(batch):
+    """The same by tools/reference."""
+    for data in batch:
+        tokens, text, tree = reference().areas(len(data))
+        decoded, words = bytearray(text), [0] * tree
+        answer = reference().read(data, [0] * tokens, decoded, words)
+        end = 8 + 8 * answer.nodes
+        yield tuple(answer), tuple(words[:8]), [words[i:i + 8] for i in range(8, end, 8)], bytes(decoded[:answer.text])
 
 
 def difference(tree, answer, header, records, text):
@@ -107,19 +131,19 @@ class Figures:
             print(repr(source), what)
 
 
-def try_departures(driver):
-    for source, reply in zip(DEPARTURES, read_all(driver, [source.encode() for source in DEPARTURES])):
+def try_departures(reader):
+    for source, reply in zip(DEPARTURES, reader([source.encode() for source in DEPARTURES])):
         if difference(Tree(source), *reply) is None:
             sys.exit(f"no difference seen: {source!r}")
 
 
 def compare(arguments):
-    driver = build(arguments.library)
-    try_departures(driver)
+    reader = read_by_reference if arguments.reference else functools.partial(read_all, build(arguments.library))
+    try_departures(reader)
     figures, batch = Figures(), []
 
     def finish():
-        for source, reply in zip(batch, read_all(driver, [source.encode() for source in batch])):
+        for source, reply in zip(batch, reader([source.encode() for source in batch])):
             try:
                 tree = Tree(source)
             except SyntaxError as error:
@@ -146,6 +170,7 @@ def main():
     parser.add_argument("--count", type=int, default=20000)
     parser.add_argument("--seed", default="1")
     parser.add_argument("--library", default=os.path.join(ROOT, "target", "staticlib", "libffi.a"))
+    parser.add_argument("--reference", action="store_true")
     parser.add_argument("--cases")
     arguments = parser.parse_args()
     if arguments.cases:
@@ -154,7 +179,7 @@ def main():
             figures.add(tree)
         figures.show()
         return 0
-    return compare(arguments)
+    return reference().with_deep_stack(lambda: compare(arguments))
 
 
 if __name__ == "__main__":

@@ -22,7 +22,7 @@ wrong() {
         exit 1
     fi
     build
-    if "$out/target/release/compare" --seconds 30 > "$out/log"; then
+    if "$out/target/release/compare" --count 6000000 > "$out/log"; then
         echo "$1: NOT FOUND"
         exit 1
     fi
@@ -37,6 +37,11 @@ wrong "the target's own span" descent/statement.rs 's/target.span = self.span_fr
 wrong "a blank line let through before else" descent/statement.rs \
     's/if self.kind() == Kind::Else {/if self.kind() == Kind::Newline \&\& self.tokens[self.at + 1].kind == Kind::Else { self.take(); } &/'
 wrong "a carriage return that clears the flag" scan.rs "s/b'.n' | b'.r' | b'#') => return/b'\\\\n' | b'#') => return/"
+wrong "a class that ends one character early" classes.rs 's/e01ef/e01ee/'
+wrong "the standard library's letters at the head of a name" name.rs 's/within(&BEGIN, c)/c.is_alphabetic()/'
+wrong "a name cut at the first character beyond ASCII" name.rs 's/|c| !continues(c)/|c: char| !c.is_ascii() || !continues(c)/'
+wrong "9 one byte late at a character beyond ASCII" scan.rs \
+    's/Refused { number, place: self.at as u32 }/Refused { number, place: (self.at + usize::from(!rest.as_bytes()[0].is_ascii())) as u32 }/'
 wrong "m below 2^53" literal.rs 's/m > 1 << 53/m >= 1 << 53/'
 wrong "the tree not zeroed" lib.rs 's/ tree.fill(0);//'
 wrong "areas zeroed by 5" lib.rs 's/if matches!(parsed, Err(Answer { number: 5, .. }))/if false/'

@@ -27,11 +27,12 @@ impl Set {
     }
 }
 
-fn sets() -> [Set; 3] {
+fn sets() -> [Set; 4] {
     [
         Set { name: "scripts", passes: 150, sources: scripts::scripts() },
         Set { name: "1000", passes: 300, sources: (0..64).map(|first| scripts::sized(1_000, first)).collect() },
         Set { name: "65536", passes: 300, sources: vec![scripts::sized(65_536, 0)] },
+        Set { name: "korean", passes: 150, sources: scripts::korean() },
     ]
 }
 
@@ -199,7 +200,7 @@ fn print_set(row: &Row) {
 }
 
 fn print_goals(rows: &[Row]) {
-    let [scripts, small, large] = rows else { panic!("three sets") };
+    let [scripts, small, large, _] = rows else { panic!("four sets") };
     let per_byte = |row: &Row| row.sides[0] / row.set.bytes() as f64;
     let met = |yes: bool| if yes { "met" } else { "missed" };
     println!();

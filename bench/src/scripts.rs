@@ -29,6 +29,57 @@ pub fn scripts() -> Vec<Vec<u8>> {
     (0..SCRIPTS).map(script).collect()
 }
 
+/// The same scripts with Korean names.
+pub fn korean() -> Vec<Vec<u8>> {
+    (0..SCRIPTS).map(|number| renamed(&String::from_utf8(script(number)).expect("ASCII"))).collect()
+}
+
+/// Every name of the scripts, and what it is in Korean.
+const NAMES: [(&str, &str); 18] = [
+    ("graph", "그래프"),
+    ("far", "거리"),
+    ("distance", "최단거리"),
+    ("start", "출발"),
+    ("node", "역"),
+    ("edge", "간선"),
+    ("open", "영업"),
+    ("hour", "시각"),
+    ("lift", "승강기"),
+    ("chair", "휠체어"),
+    ("lifts", "승강기들"),
+    ("works", "작동"),
+    ("crowd", "혼잡도"),
+    ("count", "인원"),
+    ("sign", "안내"),
+    ("route", "경로"),
+    ("late", "지연"),
+    ("show", "표시"),
+];
+
+/// The keywords among their words.
+const KEYWORDS: [&str; 14] =
+    ["and", "def", "elif", "else", "False", "for", "if", "in", "None", "not", "or", "return", "True", "while"];
+
+/// A script with its names replaced; keywords, literals and comments stay as they are.
+fn renamed(script: &str) -> Vec<u8> {
+    let mut out = String::new();
+    let mut rest = script;
+    while let Some(first) = rest.chars().next() {
+        let length = match first {
+            '#' => rest.find('\n').unwrap_or(rest.len()),
+            '"' | '\'' => 2 + rest[1..].find(first).expect("a string's end"),
+            '0'..='9' | 'a'..='z' | 'A'..='Z' => rest.find(|c: char| !c.is_ascii_alphanumeric()).unwrap_or(rest.len()),
+            _ => 1,
+        };
+        let (part, behind) = rest.split_at(length);
+        let korean = NAMES.iter().find(|(name, _)| *name == part).map(|(_, korean)| *korean);
+        assert!(korean.is_some() || !first.is_ascii_alphabetic() || KEYWORDS.contains(&part), "{part} has no Korean name");
+        out += korean.unwrap_or(part);
+        rest = behind;
+    }
+    out.into_bytes()
+}
+
 /// The scripts of a kiosk, no two of all kiosks alike. In the last one a colon is missing at the end of a line, so it is refused.
 pub fn of_kiosk(kiosk: u64) -> Vec<Vec<u8>> {
     let mut scripts: Vec<Vec<u8>> = (0..EACH).map(|number| script(kiosk * EACH + number)).collect();
@@ -110,7 +161,7 @@ pub fn sized(size: usize, first: u64) -> Vec<u8> {
     out
 }
 
-/// A source with every token, and with characters that are not ASCII. It is checked, and not timed.
+/// A source with every token, and with characters that are not ASCII, in names too. It is checked, and not timed.
 pub fn every_token() -> Vec<u8> {
     let lines = [
         "# é, €, 😀\n",
@@ -126,6 +177,7 @@ pub fn every_token() -> Vec<u8> {
         "      x = [continued * 2 / 3, a // 4 % 5, {\"é\": '\\'', \"\\\"€\\\\\": ''}]\n",
         "  def down(self): return self.at >= 4.25E+2\n",
         "y = lambda u, v: u\t+ v - 0.5e1.e2; z = 1.e5\n",
+        "역_4, é = ifα.℘·1(𐐀), e\u{301}; classé=-é\n",
         "if y:\n",
         "  return z or y\n",
         "#",

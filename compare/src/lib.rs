@@ -1,11 +1,15 @@
-//! A plain reader, written from the scope document ("01") alone, with Box and Vec: the judge of the verified one.
+//! A plain reader, written from the scope document ("01") and the changes to it ("02") alone, with Box and Vec: the judge of
+//! the verified one.
 //!
-//! `parse` reads a script to a tree; `layout` puts the tree into words; `read` puts all fourteen questions and fills the
-//! three areas. The descent and the ordered trial are two readings of the same tokens with no code in common.
+//! `parse` reads a script to a tree; `layout` puts the tree into words; `read` asks the questions 1 to 14, without 12 (gone by
+//! 02's change 1), and fills the three areas. The descent and the ordered trial are two readings of the same tokens with no
+//! code in common.
 
+pub mod classes;
 pub mod descent;
 pub mod layout;
 pub mod literal;
+pub mod name;
 pub mod scan;
 pub mod token;
 pub mod tree;
@@ -67,10 +71,11 @@ pub fn parse(src: &[u8]) -> Result<Script, Answer> {
     if src.len() > LONGEST {
         return Err(Answer::refused(Refused { number: 1, place: 0 }));
     }
-    if let Err(error) = std::str::from_utf8(src) {
-        return Err(Answer::refused(Refused { number: 5, place: error.valid_up_to() as u32 }));
-    }
-    let tokens = scan::scan(src).map_err(Answer::refused)?;
+    let text = match std::str::from_utf8(src) {
+        Ok(text) => text,
+        Err(error) => return Err(Answer::refused(Refused { number: 5, place: error.valid_up_to() as u32 })),
+    };
+    let tokens = scan::scan(text).map_err(Answer::refused)?;
     let descent::Descended { openings, written, program } = descent::descend(src, &tokens);
     match program {
         Ok(program) => Ok(Script { tokens, program, openings, written }),
@@ -78,8 +83,8 @@ pub fn parse(src: &[u8]) -> Result<Script, Answer> {
     }
 }
 
-/// Puts the fourteen questions and fills the areas, the first words and bytes of the slices. 1 to 5 leave all slices
-/// untouched, 6 to 14 zero the areas, acceptance zeroes what it doesn't fill.
+/// Asks the questions 1 to 14 in order, without 12, and fills the areas, the first words and bytes of the slices. 1 to 5 leave
+/// all slices untouched, 6 to 14 zero the areas, acceptance zeroes what it doesn't fill.
 pub fn read(src: &[u8], tokens: &mut [u32], text: &mut [u8], tree: &mut [u32]) -> Answer {
     let n = src.len();
     let (token_area, text_area, tree_area) = areas(n);

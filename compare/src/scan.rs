@@ -1,17 +1,18 @@
-//! The scanner: bytes to tokens, with Eof last. Refusals 6 to 12.
+//! The scanner: a text to tokens, with Eof last. Refusals 6 to 11.
 
 use crate::literal;
+use crate::name;
 use crate::token::{Kind, Token};
 use crate::Refused;
 
-pub fn scan(src: &[u8]) -> Result<Vec<Token>, Refused> {
+pub fn scan(src: &str) -> Result<Vec<Token>, Refused> {
     let scanner = Scanner { src, at: 0, counting: true, top: 0, tokens: Vec::with_capacity(src.len() / 3 + 4) };
     scanner.run()
 }
 
 /// `counting` is 01's flag, `top` the top of the levels 0, 2, 4 ...
 struct Scanner<'a> {
-    src: &'a [u8],
+    src: &'a str,
     at: usize,
     counting: bool,
     top: usize,
@@ -54,9 +55,9 @@ impl Scanner<'_> {
     /// Counts spaces. Before line feed, carriage return or `#` the flag stays set and no level changes.
     fn indentation(&mut self) -> Result<(), Refused> {
         let start = self.at;
-        let count = self.src[start..].iter().take_while(|&&b| b == b' ').count();
+        let count = self.src.as_bytes()[start..].iter().take_while(|&&b| b == b' ').count();
         self.at += count;
-        match self.src.get(self.at) {
+        match self.src.as_bytes().get(self.at) {
             Some(b'\t') => return Err(Refused { number: 6, place: self.at as u32 }),
             Some(b'\n' | b'\r' | b'#') => return Ok(()),
             _ => self.counting = false,
@@ -80,23 +81,25 @@ impl Scanner<'_> {
 
     /// Passes over space, tab, carriage return, and `#` up to a line feed.
     fn skip(&mut self) {
-        while let Some(byte) = self.src.get(self.at) {
+        let bytes = self.src.as_bytes();
+        while let Some(byte) = bytes.get(self.at) {
             match byte {
                 b' ' | b'\t' | b'\r' => self.at += 1,
-                b'#' => self.at += self.src[self.at..].iter().take_while(|&&b| b != b'\n').count(),
+                b'#' => self.at += bytes[self.at..].iter().take_while(|&&b| b != b'\n').count(),
                 _ => return,
             }
         }
     }
 }
 
-/// The longest match at the head of `rest`, which isn't empty; else the number of the question that says no.
-fn match_token(rest: &[u8]) -> Result<Match, u32> {
+/// The longest match at the head of a text that isn't empty; else the number of the question that says no.
+fn match_token(text: &str) -> Result<Match, u32> {
+    let rest = text.as_bytes();
     let second = rest.get(1).copied();
     let one = |kind| Ok((kind, 1, 0));
     let with_equal = |long, short| if second == Some(b'=') { Ok((long, 2, 0)) } else { one(short) };
     match rest[0] {
-        b'a'..=b'z' | b'A'..=b'Z' | b'_' => Ok(match_word(rest)),
+        b'a'..=b'z' | b'A'..=b'Z' | b'_' | 128..=255 => match_word(text),
         b'0'..=b'9' => match_number(rest),
         b'+' | b'-' if second.is_some_and(|b| b.is_ascii_digit()) => match_int(rest, 1 + digits(&rest[1..])),
         b'"' | b'\'' => match_string(rest),
@@ -121,7 +124,6 @@ fn match_token(rest: &[u8]) -> Result<Match, u32> {
         b';' => one(Kind::Semicolon),
         b'.' => one(Kind::Dot),
         b'\n' => one(Kind::Newline),
-        128..=255 => Err(12),
         _ => Err(9),
     }
 }
@@ -130,10 +132,15 @@ fn digits(bytes: &[u8]) -> usize {
     bytes.iter().take_while(|b| b.is_ascii_digit()).count()
 }
 
-fn match_word(rest: &[u8]) -> Match {
-    let length = rest.iter().take_while(|&&b| b.is_ascii_alphanumeric() || b == b'_').count();
-    let word = &rest[..length];
-    (Kind::of_word(word), length, u64::from(word == b"True"))
+/// A name or a keyword; a character over 127 that begins no name is refused as any other that matches nothing.
+fn match_word(text: &str) -> Result<Match, u32> {
+    match name::length(text) {
+        0 => Err(9),
+        length => {
+            let word = &text[..length];
+            Ok((Kind::of_word(word), length, u64::from(word == "True")))
+        }
+    }
 }
 
 fn match_int(rest: &[u8], length: usize) -> Result<Match, u32> {

@@ -1,5 +1,8 @@
-//! 01's "Scripts and their outcome", read both ways.
+//! 01's "Scripts and their outcome" and 02's names, read both ways; the classes of characters.
 
+use crate::classes::{BEGIN, CONTINUE};
+use crate::name::{begins, continues, within};
+use crate::token::Kind;
 use crate::trial::{try_program, Verdict};
 use crate::words::kind;
 use crate::{parse, print, scan, Answer};
@@ -7,7 +10,7 @@ use crate::{parse, print, scan, Answer};
 fn refusal(src: &str) -> (u32, u32) {
     let answer = parse(src.as_bytes()).err().expect("refused");
     if answer.number == 14 {
-        let tokens = scan::scan(src.as_bytes()).unwrap();
+        let tokens = scan::scan(src).unwrap();
         assert!(matches!(try_program(src.as_bytes(), &tokens, 1 << 30), Verdict::Refused), "{src:?}");
     }
     (answer.number, answer.place)
@@ -15,7 +18,7 @@ fn refusal(src: &str) -> (u32, u32) {
 
 /// The kinds of the nodes in the order of writing.
 fn kinds(src: &str) -> Vec<u32> {
-    let tokens = scan::scan(src.as_bytes()).unwrap();
+    let tokens = scan::scan(src).unwrap();
     let script = parse(src.as_bytes()).ok().expect("accepted");
     let layout = crate::layout::lay_out(&script.program, src.len() as u32);
     let Verdict::Accepted { nodes, text } = try_program(src.as_bytes(), &tokens, 1 << 30) else { panic!("{src:?}") };
@@ -38,7 +41,7 @@ fn refused_scripts() {
         ("a\n ", 7, 2),
         ("\ra = 1", 7, 2),
         ("!", 9, 0),
-        ("a\u{e9}", 12, 1),
+        ("a\u{20ac}", 9, 1),
         ("if a: b\n\nelse: c\n", 14, 9),
     ];
     for (src, number, place) in cases {
@@ -73,4 +76,64 @@ fn areas_and_printing() {
     let chain = "1 8 6 0 8 7 19 6\n0 23 0 1 - 0 1 0 0\n1 23 2 3 - 2 3 0 0\n2 25 0 3 - 9 0 1 0\n3 23 4 5 - 4 5 0 0\n\
                  4 25 2 5 - 9 1 3 0\n5 25 0 5 - 13 2 4 0\n6 12 0 5 - 5 0 0 0\n7 1 0 6 - 6 0 0 0\n";
     assert_eq!(print(b"a<b<c\n"), chain);
+}
+
+/// The tokens of a text, each with its bytes.
+fn words(src: &str) -> Vec<(Kind, &str)> {
+    let tokens = scan::scan(src).unwrap();
+    tokens.iter().map(|token| (token.kind, &src[token.start as usize..token.end as usize])).collect()
+}
+
+#[test]
+fn names_in_any_script() {
+    #[rustfmt::skip]
+    let names = [
+        "\u{e9}", "a\u{e9}", "_\u{b7}", "\u{2118}", "\u{ac00}\u{ac01}", "\u{3b1}\u{3b2}1", "\u{627}\u{644}", "\u{915}\u{94d}\u{937}", "e\u{301}",
+        "if\u{e9}", "\u{e9}if", "None\u{301}", "\u{fb01}", "\u{ff41}\u{ff11}", "\u{10400}\u{1d7d8}", "a\u{e0100}", "\u{323af}",
+    ];
+    for name in names {
+        assert_eq!(words(name), [(Kind::Name, name), (Kind::Eof, "")]);
+        assert_eq!(kinds(name), [kind::VARIABLE, kind::EXPR, kind::PROGRAM]);
+        assert_eq!(kinds(&format!("{name}.{name}({name})\n"))[..2], [kind::VARIABLE, kind::ATTRIBUTE]);
+    }
+    use Kind::{Dot, Eof, Float, Int, Minus, Name, Str};
+    assert_eq!(words("1\u{e9}"), [(Int, "1"), (Name, "\u{e9}"), (Eof, "")]);
+    assert_eq!(words("1.\u{e9}"), [(Int, "1"), (Dot, "."), (Name, "\u{e9}"), (Eof, "")]);
+    assert_eq!(words("1.5e\u{e9}"), [(Float, "1.5"), (Name, "e\u{e9}"), (Eof, "")]);
+    assert_eq!(words("-\u{e9}''\u{e9}"), [(Minus, "-"), (Name, "\u{e9}"), (Str, "''"), (Name, "\u{e9}"), (Eof, "")]);
+    // Not normalised: a wide t is no t.
+    assert_eq!(kinds("t{a}")[1], kind::TREE_SET);
+    assert_eq!(refusal("\u{ff54}{a}"), (14, 3));
+}
+
+#[test]
+fn no_names() {
+    #[rustfmt::skip]
+    let strays = [
+        "\u{80}", "\u{a0}", "\u{b7}", "\u{d7}", "\u{301}", "\u{661}", "\u{94d}", "\u{200d}", "\u{2028}", "\u{20ac}", "\u{3000}", "\u{feff}",
+        "\u{ff11}", "\u{1d7d8}", "\u{1f600}", "\u{e0100}", "\u{10ffff}",
+    ];
+    for stray in strays {
+        for front in ["", "  \r ", "'\u{e9}' ", "1", "- ", "(", "\u{e9} ", "if a:\n  \u{e9}\n  ", "#\u{e9}\n"] {
+            assert_eq!(refusal(&format!("{front}{stray}")), (9, front.len() as u32), "{front:?} {stray:?}");
+        }
+    }
+    assert_eq!(refusal("a\u{20ac}"), (9, 1));
+    assert_eq!(refusal("\u{e9}\u{20ac}"), (9, 2));
+    assert_eq!(refusal("\u{ac00}\u{a0}a"), (9, 3));
+    assert_eq!(refusal("\u{feff}a"), (9, 0));
+}
+
+#[test]
+fn classes() {
+    for ranges in [&BEGIN[..], &CONTINUE] {
+        assert!(ranges.iter().all(|(first, last)| first <= last));
+        assert!(ranges.windows(2).all(|two| two[0].1 as u32 + 1 < two[1].0 as u32));
+    }
+    for c in '\0'..=char::MAX {
+        assert_eq!((begins(c), continues(c)), (within(&BEGIN, c), within(&CONTINUE, c)), "{c:?}");
+        assert!(continues(c) || !begins(c), "{c:?}");
+        // The standard library has other classes, of a later Unicode: all that begin names are letters there, but for these.
+        assert!(c.is_alphabetic() || !begins(c) || ['_', '\u{2118}', '\u{212e}'].contains(&c), "{c:?}");
+    }
 }

@@ -65,26 +65,26 @@ pub struct Token {
 
 impl Kind {
     /// The name's kind, or that of the keyword: "at equal length a keyword beats a name".
-    pub fn of_word(word: &[u8]) -> Kind {
+    pub fn of_word(word: &str) -> Kind {
         match word {
-            b"if" => Kind::If,
-            b"elif" => Kind::Elif,
-            b"else" => Kind::Else,
-            b"while" => Kind::While,
-            b"for" => Kind::For,
-            b"in" => Kind::In,
-            b"def" => Kind::Def,
-            b"return" => Kind::Return,
-            b"and" => Kind::And,
-            b"or" => Kind::Or,
-            b"not" => Kind::Not,
-            b"class" => Kind::Class,
-            b"break" => Kind::Break,
-            b"continue" => Kind::Continue,
-            b"pass" => Kind::Pass,
-            b"lambda" => Kind::Lambda,
-            b"None" => Kind::None,
-            b"True" | b"False" => Kind::Bool,
+            "if" => Kind::If,
+            "elif" => Kind::Elif,
+            "else" => Kind::Else,
+            "while" => Kind::While,
+            "for" => Kind::For,
+            "in" => Kind::In,
+            "def" => Kind::Def,
+            "return" => Kind::Return,
+            "and" => Kind::And,
+            "or" => Kind::Or,
+            "not" => Kind::Not,
+            "class" => Kind::Class,
+            "break" => Kind::Break,
+            "continue" => Kind::Continue,
+            "pass" => Kind::Pass,
+            "lambda" => Kind::Lambda,
+            "None" => Kind::None,
+            "True" | "False" => Kind::Bool,
             _ => Kind::Name,
         }
     }

@@ -9,9 +9,10 @@ use crate::source::Source;
 struct Long(&'static str, &'static str, &'static str, &'static str, usize);
 
 /// Expressions.
-const EXPRESSIONS: [Long; 45] = [
+const EXPRESSIONS: [Long; 48] = [
     Long("sums", "a", "+a", "", 0),
     Long("sums", "a", "-a", "", 0),
+    Long("sums", "역", "+역", "", 0),
     Long("products", "a", "*a", "", 0),
     Long("products", "a", "//a", "", 0),
     Long("products", "a", "/a", "", 0),
@@ -46,6 +47,8 @@ const EXPRESSIONS: [Long; 45] = [
     Long("many lambdas", "[", "lambda:a,", "]", 2),
     Long("parameters", "lambda ", "a,", ":a", 1),
     Long("one token", "a", "a", "", 0),
+    Long("one token", "é", "역", "", 0),
+    Long("one token", "a", "\u{e0100}", "", 0),
     Long("one token", "0", "0", "", 0),
     Long("one token", "-0", "0", "", 0),
     Long("one token", "0", "0", ".0", 0),

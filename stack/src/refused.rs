@@ -5,7 +5,7 @@ use crate::nest::{nest, shown, DEEPEST};
 use crate::source::Source;
 
 /// What stands behind, its number, and its place from there on.
-const ENDS: [(&[u8], u32, usize); 14] = [
+const ENDS: [(&[u8], u32, usize); 15] = [
     (b"'a\xff'", 5, 2),
     (b"\ta", 6, 0),
     (b" a", 7, 0),
@@ -15,7 +15,8 @@ const ENDS: [(&[u8], u32, usize); 14] = [
     (b"'a", 9, 0),
     (b"9223372036854775808", 10, 0),
     (b"1.0e24", 11, 0),
-    ("é".as_bytes(), 12, 0),
+    ("€".as_bytes(), 9, 0),
+    ("역_4€".as_bytes(), 9, 5),
     (b"a b", 14, 2),
     (b"a=", 14, 2),
     (b"if a:\n  a", 14, 9),

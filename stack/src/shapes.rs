@@ -88,9 +88,10 @@ pub const HOSTS: [&str; 13] = [
 ];
 
 /// Expressions that open no E within.
-pub const LEAVES: [&str; 26] = [
+pub const LEAVES: [&str; 27] = [
     "a",
     "t",
+    "역_4.𐐀·",
     "1",
     "-9223372036854775808",
     "1.5",

@@ -1,14 +1,20 @@
 //! What was compared, in numbers.
 
 use crate::generate::CLASSES;
-use crate::sides::Tried;
+use crate::sides::{Tried, NEVER};
 use plain::Answer;
 
 #[derive(Clone, Copy, Default)]
 struct Row {
     inputs: u64,
     bytes: u64,
+    /// Those with no character beyond ASCII.
+    ascii: u64,
     numbers: [u64; 15],
+    /// Those accepted that have a name with a character beyond ASCII.
+    named: u64,
+    /// Those refused by 9 at a character beyond ASCII.
+    stray: u64,
     unanswered: u64,
     alike: u64,
     spent: u64,
@@ -20,14 +26,17 @@ pub struct Figures {
 }
 
 impl Figures {
-    pub fn count(&mut self, class: usize, bytes: usize, answer: Option<Answer>, tried: Tried) {
+    pub fn count(&mut self, class: usize, src: &[u8], answer: Option<Answer>, tried: Tried, named: bool) {
         let row = &mut self.rows[class];
         row.inputs += 1;
-        row.bytes += bytes as u64;
+        row.bytes += src.len() as u64;
+        row.ascii += u64::from(src.is_ascii());
         match answer {
             Some(answer) => row.numbers[answer.number as usize] += 1,
             None => row.unanswered += 1,
         }
+        row.named += u64::from(named);
+        row.stray += u64::from(answer.is_some_and(|answer| answer.number == 9 && !src[answer.place as usize].is_ascii()));
         row.alike += u64::from(tried == Tried::Alike);
         row.spent += u64::from(tried == Tried::Spent);
     }
@@ -37,6 +46,9 @@ impl Figures {
         for row in &self.rows {
             total.inputs += row.inputs;
             total.bytes += row.bytes;
+            total.ascii += row.ascii;
+            total.named += row.named;
+            total.stray += row.stray;
             total.unanswered += row.unanswered;
             total.alike += row.alike;
             total.spent += row.spent;
@@ -49,19 +61,29 @@ impl Figures {
 
     pub fn print(&self, seconds: f64, differences: u32) {
         println!(
-            "{:<12} {:>10} {:>12} {:>10} {:>10} {:>10} {:>9} {:>7}",
-            "class", "inputs", "bytes", "accepted", "1-12", "13", "14", "-"
+            "{:<12} {:>10} {:>12} {:>10} {:>10} {:>10} {:>10} {:>10} {:>10} {:>9} {:>7}",
+            "class", "inputs", "bytes", "ASCII", "accepted", "named", "1-11", "9 wide", "13", "14", "-"
         );
         let total = self.total();
         for (name, row) in CLASSES.iter().map(|class| class.name).zip(&self.rows).chain([("all", &total)]) {
-            let lexical: u64 = row.numbers[1..=12].iter().sum();
+            let lexical: u64 = row.numbers[1..=11].iter().sum();
             println!(
-                "{name:<12} {:>10} {:>12} {:>10} {lexical:>10} {:>10} {:>9} {:>7}",
-                row.inputs, row.bytes, row.numbers[0], row.numbers[13], row.numbers[14], row.unanswered
+                "{name:<12} {:>10} {:>12} {:>10} {:>10} {:>10} {lexical:>10} {:>10} {:>10} {:>9} {:>7}",
+                row.inputs,
+                row.bytes,
+                row.ascii,
+                row.numbers[0],
+                row.named,
+                row.stray,
+                row.numbers[13],
+                row.numbers[14],
+                row.unanswered
             );
         }
-        println!("accepted {}", total.numbers[0]);
-        for (number, count) in total.numbers.iter().enumerate().skip(1) {
+        println!("ASCII only: {}", total.ascii);
+        println!("accepted {}, with a name beyond ASCII: {}", total.numbers[0], total.named);
+        println!("refused by 9 at a character beyond ASCII: {}", total.stray);
+        for (number, count) in total.numbers.iter().enumerate().filter(|&(number, _)| number != 0 && number != NEVER as usize) {
             println!("refused by {number:>2}: {count}");
         }
         println!("fewer than six words for the answer: {}", total.unanswered);

@@ -26,6 +26,16 @@ struct Limits {
     seed: u64,
 }
 
+impl Limits {
+    /// Whether the count or the seconds are over after so many inputs; with neither, a minute. The clock is looked at before
+    /// each 64th input.
+    fn over(&self, done: u64, begun: Instant) -> bool {
+        let seconds = self.seconds.or(if self.count.is_none() { Some(60) } else { None });
+        self.count.is_some_and(|count| done >= count)
+            || done % 64 == 0 && seconds.is_some_and(|most| begun.elapsed() >= Duration::from_secs(most))
+    }
+}
+
 fn main() -> ExitCode {
     let words: Vec<String> = std::env::args().skip(1).collect();
     let work = std::thread::Builder::new().stack_size(STACK).spawn(move || start(&words));
@@ -77,22 +87,15 @@ fn one(case: Case) -> ExitCode {
     ExitCode::from(u8::from(sides.compare(&case).is_err()))
 }
 
-/// Runs until the count or the seconds are over; with neither, for a minute.
+/// Runs until the limits are over, or to the first difference.
 fn run(limits: &Limits) -> ExitCode {
     println!("seed {}", limits.seed);
-    let seconds = limits.seconds.or(if limits.count.is_none() { Some(60) } else { None });
     let begun = Instant::now();
     let mut sides = Sides::new();
     let mut figures = Figures::default();
     let mut generator = Generator::new(limits.seed);
     let mut done = 0;
-    loop {
-        if limits.count.is_some_and(|count| done >= count) {
-            break;
-        }
-        if done % 64 == 0 && seconds.is_some_and(|most| begun.elapsed() >= Duration::from_secs(most)) {
-            break;
-        }
+    while !limits.over(done, begun) {
         let (class, case) = generator.next();
         let compared = sides.compare(&case).and_then(|made| {
             if done % 65_536 == 0 {
@@ -101,7 +104,10 @@ fn run(limits: &Limits) -> ExitCode {
             Ok(made)
         });
         match compared {
-            Ok((answer, tried)) => figures.count(class, case.src.len(), answer, tried),
+            Ok((answer, tried)) => {
+                let named = answer.is_some_and(|answer| sides.wide_name(&case.src, answer));
+                figures.count(class, &case.src, answer, tried, named);
+            }
             Err(_) => {
                 let smallest = shrink::shrink(&mut sides, case);
                 shrink::show(&mut sides, &smallest);

@@ -1,5 +1,6 @@
 //! One input put to both readers, and what they made of it.
 
+use plain::token::Kind;
 use plain::trial::{try_program, Verdict};
 use plain::{areas, Answer};
 use std::panic::{catch_unwind, AssertUnwindSafe};
@@ -22,6 +23,9 @@ extern "C" {
 
 /// What the library returns where `answer` has fewer than six words.
 const NO_ANSWER: u32 = 4294967295;
+
+/// No source is answered by this number since 02's change 1.
+pub const NEVER: u32 = 12;
 
 /// Cells behind each slice that are looked at too.
 const MARGIN: usize = 24;
@@ -128,6 +132,9 @@ impl Sides {
         if returned != due {
             return differ(format!("returned {returned}, not {due}"));
         }
+        if due == NEVER {
+            return differ(format!("both answer {NEVER}"));
+        }
         self.alike(reach)?;
         let tried = answer.map_or(Ok(Tried::SetAside), |answer| self.try_too(&case.src, answer))?;
         Ok((answer, tried))
@@ -178,12 +185,21 @@ impl Sides {
         self.alike([self.plain.tokens.len(), self.plain.text.len(), self.plain.tree.len()])
     }
 
+    /// Whether a source is accepted and has a name with a character beyond ASCII.
+    pub fn wide_name(&self, src: &[u8], answer: Answer) -> bool {
+        let tokens = self.library.tokens.chunks_exact(3).take(answer.tokens as usize);
+        let wide = |token: &[u32]| token[0] == Kind::Name as u32 && !src[token[1] as usize..token[2] as usize].is_ascii();
+        answer.number == 0 && tokens.into_iter().any(wide)
+    }
+
     /// The ordered trial is set beside the descent where that has read the tokens to an end or to a 14.
     fn try_too(&self, src: &[u8], answer: Answer) -> Result<Tried, Difference> {
         if answer.number != 0 && answer.number != 14 {
             return Ok(Tried::SetAside);
         }
-        let Ok(tokens) = plain::scan::scan(src) else { return differ("scanned twice, refused once") };
+        let Some(Ok(tokens)) = std::str::from_utf8(src).ok().map(plain::scan::scan) else {
+            return differ("scanned twice, refused once");
+        };
         let fuel = 50_000 + 400 * tokens.len() as u64;
         match (try_program(src, &tokens, fuel), answer.number) {
             (Verdict::Spent, _) => Ok(Tried::Spent),

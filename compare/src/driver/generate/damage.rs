@@ -1,6 +1,6 @@
 //! Damaged copies of scripts.
 
-use super::{deep, script, soup};
+use super::{deep, script, soup, wide};
 use crate::random::Random;
 
 /// A script, sometimes a nested one, with one to four changes.
@@ -38,7 +38,7 @@ fn damage(random: &mut Random, src: &mut Vec<u8>) {
             src.swap(at, other);
         }
         _ => {
-            let token = random.pick(&soup::TOKENS);
+            let token = if random.once_in(3) { wide::word(random) } else { random.pick(&soup::TOKENS).to_string() };
             let blank = random.pick(&["", " "]);
             src.splice(at..at, format!("{blank}{token}{blank}").into_bytes());
         }

@@ -59,7 +59,9 @@ fn expression(random: &mut Random, src: &mut Vec<u8>, depth: usize) {
         let row = random.pick(&ROWS);
         src.extend(row.repeat(random.below(12)).bytes());
     }
-    src.extend(random.pick(&["a", "a", "a", "1", "'s'", "()", "())", "[]", "{}", ")", "", "a b", "lambda: a"]).bytes());
+    const LEAVES: [&str; 13] = ["a", "a", "a", "1", "'s'", "()", "())", "[]", "{}", ")", "", "a b", "lambda: a"];
+    const WIDE: [&str; 4] = ["\u{ac00}", "a\u{301}<\u{10400}", "if\u{e9}", "\u{b7}"];
+    src.extend(if random.once_in(12) { random.pick(&WIDE) } else { random.pick(&LEAVES) }.bytes());
     if random.once_in(5) {
         closers.truncate(random.below(closers.len() + 1));
     }

@@ -1,4 +1,4 @@
-//! The inputs: two classes whole, then the others in turn by their weight.
+//! The inputs: four classes whole, then the others in turn by their weight.
 
 mod damage;
 mod deep;
@@ -6,6 +6,7 @@ mod expression;
 mod limits;
 mod script;
 mod soup;
+mod wide;
 
 use crate::random::Random;
 use crate::sides::Case;
@@ -21,13 +22,16 @@ fn enumerated(_: &mut Random) -> Vec<u8> {
     unreachable!("its weight is 0")
 }
 
-pub const CLASSES: [Class; 10] = [
+pub const CLASSES: [Class; 13] = [
     Class { name: "bytes to 3", weight: 0, make: enumerated },
     Class { name: "pieces to 4", weight: 0, make: enumerated },
+    Class { name: "letters to 3", weight: 0, make: enumerated },
+    Class { name: "characters", weight: 0, make: enumerated },
     Class { name: "bytes", weight: 2000, make: soup::bytes },
     Class { name: "soups", weight: 4000, make: soup::tokens },
     Class { name: "lines", weight: 2000, make: soup::lines },
     Class { name: "literals", weight: 1500, make: soup::literals },
+    Class { name: "names", weight: 2500, make: wide::names },
     Class { name: "scripts", weight: 2500, make: script::script },
     Class { name: "damaged", weight: 4000, make: damage::damaged },
     Class { name: "nested", weight: 1000, make: deep::nested },
@@ -47,53 +51,60 @@ const PIECES: [&str; 34] = [
 
 pub struct Generator {
     random: Random,
-    bytes: Option<Counter>,
-    pieces: Option<Counter>,
+    whole: Box<dyn Iterator<Item = (usize, Vec<u8>)>>,
 }
 
-/// All strings of letters below `base`, the shorter ones first, up to a length.
-struct Counter {
-    base: usize,
+/// All strings of letters, the shorter ones first, up to a length; `next` is the next one's letters.
+struct Strings {
+    letters: Vec<&'static [u8]>,
     longest: usize,
-    letters: Vec<usize>,
+    next: Vec<usize>,
 }
 
-impl Counter {
-    /// The next string; None behind the last.
-    fn next(&mut self) -> Option<()> {
-        for letter in self.letters.iter_mut().rev() {
+impl Strings {
+    fn of(letters: impl Iterator<Item = &'static [u8]>, longest: usize) -> Strings {
+        Strings { letters: letters.collect(), longest, next: Vec::new() }
+    }
+
+    fn step(&mut self) {
+        for letter in self.next.iter_mut().rev() {
             *letter += 1;
-            if *letter < self.base {
-                return Some(());
+            if *letter < self.letters.len() {
+                return;
             }
             *letter = 0;
         }
-        self.letters.push(0);
-        (self.letters.len() <= self.longest).then_some(())
+        self.next.push(0);
+    }
+}
+
+impl Iterator for Strings {
+    type Item = Vec<u8>;
+
+    fn next(&mut self) -> Option<Vec<u8>> {
+        if self.next.len() > self.longest {
+            return None;
+        }
+        let string = self.next.iter().flat_map(|&letter| self.letters[letter]).copied().collect();
+        self.step();
+        Some(string)
     }
 }
 
 impl Generator {
     pub fn new(seed: u64) -> Generator {
-        let counter = |base, longest| Some(Counter { base, longest, letters: Vec::new() });
-        Generator { random: Random::new(seed), bytes: counter(TELLING.len(), 3), pieces: counter(PIECES.len(), 4) }
+        let bytes = Strings::of(TELLING.chunks(1), 3);
+        let pieces = Strings::of(PIECES.iter().map(|piece| piece.as_bytes()), 4);
+        let letters = Strings::of(wide::TELLING.iter().map(|letter| letter.as_bytes()), 3);
+        let whole = bytes.map(|src| (0, src)).chain(pieces.map(|src| (1, src))).chain(letters.map(|src| (2, src)));
+        let whole = whole.chain(wide::characters().map(|src| (3, src)));
+        Generator { random: Random::new(seed), whole: Box::new(whole) }
     }
 
     /// An input and the number of its class.
     pub fn next(&mut self) -> (usize, Case) {
-        if let Some(counter) = &mut self.bytes {
-            let src = counter.letters.iter().map(|&letter| TELLING[letter]).collect();
-            if counter.next().is_none() {
-                self.bytes = None;
-            }
-            return (0, Case::of(src));
-        }
-        if let Some(counter) = &mut self.pieces {
-            let src = counter.letters.iter().flat_map(|&letter| PIECES[letter].bytes()).collect();
-            if counter.next().is_none() {
-                self.pieces = None;
-            }
-            return (1, Case::of(src));
+        if let Some((class, src)) = self.whole.next() {
+            return (class, Case::of(src));
         }
         let class = self.class();
         let src = (CLASSES[class].make)(&mut self.random);

@@ -1,11 +1,13 @@
 //! Scripts by the grammar.
 
+use super::wide;
 use crate::random::Random;
 
 /// A script that is accepted, but for the rare one that nests too deep or ends in an open line.
 pub fn script(random: &mut Random) -> Vec<u8> {
     let lines = random.between(1, 6);
-    let mut writer = Writer { budget: random.between(4, 120), random, out: Vec::new(), level: 0 };
+    let wide = random.once_in(8);
+    let mut writer = Writer { budget: random.between(4, 120), random, out: Vec::new(), level: 0, wide };
     for _ in 0..lines {
         writer.blank_lines();
         writer.line();
@@ -27,6 +29,8 @@ pub struct Writer<'a> {
     out: Vec<u8>,
     budget: usize,
     level: usize,
+    /// Whether half of the names have characters beyond ASCII.
+    wide: bool,
 }
 
 impl Writer<'_> {
@@ -37,7 +41,7 @@ impl Writer<'_> {
 
     /// Writes a token, with a blank where it would else be one with what stands before, or sometimes.
     pub fn put(&mut self, token: &str) {
-        let word = |b: &u8| b.is_ascii_alphanumeric() || *b == b'_';
+        let word = |b: &u8| b.is_ascii_alphanumeric() || *b == b'_' || !b.is_ascii();
         let first = token.as_bytes()[0];
         let joins = match self.out.last() {
             Some(last) if word(last) => word(&first),
@@ -61,6 +65,10 @@ impl Writer<'_> {
     }
 
     pub fn name(&mut self) {
+        if self.wide && self.random.once_in(2) {
+            let name = wide::name(self.random);
+            return self.put(&name);
+        }
         self.put_one_of(&["a", "b", "c", "t", "node", "_d", "E", "is", "x1"]);
     }
 

@@ -1,5 +1,6 @@
 //! Bytes, tokens and lines in no order.
 
+use super::wide;
 use crate::random::Random;
 
 /// Every keyword and operator, with names, literals and what matches nothing.
@@ -8,8 +9,12 @@ pub const TOKENS: [&str; 86] = [
     "if", "elif", "else", "while", "for", "in", "def", "return", "and", "or", "not", "class", "break", "continue", "pass", "lambda", "None",
     "True", "False", "a", "b", "t", "t", "_x1", "name", "ifs", "is", "e5", "0", "1", "7", "-1", "+2", "007", "1.5", "2.0e3", "0.1E-2", "''",
     "'a'", "\"b\\n\"", "'\\q\\''", "\"\u{e9}\"", "+", "-", "*", "//", "/", "%", "==", "!=", "<", "<=", ">", ">=", "=", "(", ")", "[", "]", "{",
-    "}", ":", ",", ";", ".", "(", ")", "[", "]", "{", "}", ":", ",", ",", ".", "a", "a", "1", "#c", "\r", "\t", "!", "\u{e9}", "@", "\\", "'",
+    "}", ":", ",", ";", ".", "(", ")", "[", "]", "{", "}", ":", ",", ",", ".", "a", "a", "1", "#c", "\r", "\t", "!", "\u{20ac}", "@", "\\", "'",
 ];
+
+/// How many of them are words, which stand first, and how many may stand in a script.
+pub const WORDS: usize = 28;
+const PLAIN: usize = 78;
 
 /// Openings of lines.
 #[rustfmt::skip]
@@ -18,11 +23,12 @@ const STARTS: [&str; 12] = ["\n", "\n", "\n  ", "\n  ", "\n    ", "\n      ", "\
 /// Any bytes, of the telling ones or of all 256, in UTF-8 or nearly.
 pub fn bytes(random: &mut Random) -> Vec<u8> {
     let length = random.between(1, 24);
-    let all = random.once_in(4);
+    let (all, wide) = (random.once_in(4), random.once_in(8));
     let mut src = Vec::new();
     while src.len() < length {
         match random.below(8) {
             0 => src.extend(utf8(random)),
+            1..=3 if wide => src.extend(wide::word(random).bytes()),
             _ if all => src.push(random.next() as u8),
             _ => src.push(random.byte_of(super::TELLING)),
         }
@@ -48,11 +54,15 @@ fn utf8(random: &mut Random) -> Vec<u8> {
 pub fn tokens(random: &mut Random) -> Vec<u8> {
     let length = random.between(2, 30);
     let (blanks, feeds) = (random.between(1, 6), random.between(4, 20));
-    let plain = random.once_in(2);
+    let (plain, wide) = (random.once_in(2), random.once_in(8));
     let mut src = Vec::new();
     for _ in 0..length {
-        let token = if plain { random.pick(&TOKENS[..78]) } else { random.pick(&TOKENS) };
-        src.extend(token.bytes());
+        let token = if plain { random.pick(&TOKENS[..PLAIN]) } else { random.pick(&TOKENS) };
+        match random.below(6) {
+            0 | 1 if wide && plain => src.extend(wide::name(random).bytes()),
+            0 | 1 if wide => src.extend(wide::word(random).bytes()),
+            _ => src.extend(token.bytes()),
+        }
         if !random.once_in(blanks) || plain {
             src.push(b' ');
         }
@@ -70,18 +80,26 @@ pub fn lines(random: &mut Random) -> Vec<u8> {
         "a", "a = 1", "if a:", "if a: b", "else:", "elif b:", "def f():", "class C:", "while a:", "for i in b:", "pass", "", "", "# c", "\r", "a;", "(",
         ")", "return a", "\"x\ny\"",
     ];
+    #[rustfmt::skip]
+    const WIDE: [&str; 10] = [
+        "\u{ac00}", "\u{3b1} = \u{ac00}", "if \u{e9}:", "if\u{e9} = 1", "def \u{915}\u{94d}():", "for \u{627} in \u{3b1}:",
+        "# \u{20ac}", "\u{feff}a", "\u{2028}", "a\u{a0}",
+    ];
     const OPENINGS: [&str; 6] = ["\r", "\t", " \r ", "\r\t", "  \t", "\r  "];
+    const WIDE_OPENINGS: [&str; 5] = ["\u{a0}", "\u{3000}", "\r\u{2028}", "\u{feff}", "\u{301}"];
+    let wide = random.once_in(8);
     let mut src = Vec::new();
     let mut level = 0;
     for _ in 0..random.between(1, 12) {
         match random.below(16) {
+            0 if wide && random.once_in(2) => src.extend(random.pick(&WIDE_OPENINGS).bytes()),
             0 => src.extend(random.pick(&OPENINGS).bytes()),
             1 => src.extend(vec![b' '; random.below(9)]),
             2..=4 if level > 0 => level -= random.between(1, level),
             _ => {}
         }
         src.extend(vec![b' '; 2 * level]);
-        let body = random.pick(&BODIES);
+        let body = if wide && random.once_in(2) { random.pick(&WIDE) } else { random.pick(&BODIES) };
         src.extend(body.bytes());
         if body.ends_with(':') && !random.once_in(8) {
             level += 1;
@@ -98,12 +116,17 @@ pub fn lines(random: &mut Random) -> Vec<u8> {
 
 /// A literal or two at the borders of what is admitted.
 pub fn literals(random: &mut Random) -> Vec<u8> {
+    let wide = random.once_in(8);
     let mut src = Vec::new();
     for _ in 0..random.between(1, 3) {
         match random.below(4) {
             0 => int(random, &mut src),
             1 | 2 => float(random, &mut src),
             _ => string(random, &mut src),
+        }
+        if wide {
+            src.extend(random.pick(&["", "", ".", "e", "\n"]).bytes());
+            src.extend(wide::word(random).bytes());
         }
         src.extend(random.pick(&[",", ", ", "", ";", "\n"]).bytes());
     }
