@@ -1,5 +1,5 @@
 #!/bin/sh
-# Builds the static library, the program, and the examples in C and Rust; runs all on examples/kiosk.pyh and on small scripts. The examples' listings must
+# Builds the static library, the program, and the examples in C and Rust; runs all on the scripts of examples/ and on small ones. The examples' listings must
 # be the program's output, and the two walks the same, byte for byte.
 #
 #     examples/run.sh
@@ -18,7 +18,7 @@ cp target/cargo/release/examples/walk "$work/walk_rust"
 
 mkdir "$work/scripts"
 scripts=$work/scripts
-cp examples/kiosk.pyh "$scripts"
+cp examples/*.pyh "$scripts"
 : >"$scripts/empty"
 printf 'a<b<c\n' >"$scripts/chain"
 printf 'a-1' >"$scripts/signed"
@@ -37,6 +37,9 @@ printf 'if a:\n  b\n c\n' >"$scripts/no_level"
 printf '$' >"$scripts/no_token"
 printf '1.0e24' >"$scripts/float"
 printf 'a\303\251' >"$scripts/letter"
+printf 'a\342\202\254' >"$scripts/euro"
+printf '\302\267' >"$scripts/middle_dot"
+printf 'e\314\201 = \303\251, \360\220\220\267\n' >"$scripts/composed"
 printf '\377' >"$scripts/bytes"
 printf 'x = {"a": 1.5, "b\\n": t{1, 2}, 3: lambda a, b: -a * b}; y.z(1)[0], None\n' >"$scripts/values"
 awk 'BEGIN { for (i = 0; i < 64; i++) printf "("; printf "a"; for (i = 0; i < 64; i++) printf ")" }' >"$scripts/deep"

@@ -36,12 +36,12 @@ extern "C" {
 
 /* The words of an answer. */
 enum {
-    TARBUCKET_ANSWER_NUMBER = 0,   /* 0: accepted; 1 to 14: the refusal, see below */
+    TARBUCKET_ANSWER_NUMBER = 0,   /* 0: accepted; 1 to 14, but never 12: the refusal, see below */
     TARBUCKET_ANSWER_PLACE = 1,    /* the byte where it is refused; 0 where it is accepted */
-    TARBUCKET_ANSWER_TOKENS = 2,   /* T, the tokens without Eof; 0 in refusals 1 to 12 */
+    TARBUCKET_ANSWER_TOKENS = 2,   /* T, the tokens without Eof; 0 in refusals 1 to 11 */
     TARBUCKET_ANSWER_NODES = 3,    /* N, the nodes of the tree; 0 in a refusal */
     TARBUCKET_ANSWER_TEXT = 4,     /* the bytes of decoded strings; 0 in a refusal */
-    TARBUCKET_ANSWER_OPENINGS = 5, /* the rules opened; 0 in refusals 1 to 12 */
+    TARBUCKET_ANSWER_OPENINGS = 5, /* the rules opened; 0 in refusals 1 to 11 */
     TARBUCKET_ANSWER_WORDS = 6
 };
 
@@ -56,10 +56,10 @@ enum {
     TARBUCKET_TAB = 6,              /* a tab in the indentation, at the tab */
     TARBUCKET_TOO_FAR = 7,          /* indented by other than exactly 2 more, where the counting began */
     TARBUCKET_NO_LEVEL = 8,         /* back on no open level, where the counting began */
-    TARBUCKET_NO_TOKEN = 9,         /* no token matches, at its start (an open string, too) */
+    TARBUCKET_NO_TOKEN = 9,         /* no token matches, at its start (an open string, or a character over 127 that begins no name, too) */
     TARBUCKET_INT_RANGE = 10,       /* an Int below -2^63 or above 2^63 - 1, at its start */
     TARBUCKET_FLOAT_RANGE = 11,     /* a Float that is not admitted, at its start */
-    TARBUCKET_NOT_ASCII = 12,       /* a byte over 127 where a token would start */
+    TARBUCKET_NOT_ASCII = 12,       /* never given, since names are in any script; kept so that older programs compile, and the number stays reserved */
     TARBUCKET_TOO_DEEP = 13,        /* more than 64 expressions and blocks open at once, at the token */
     TARBUCKET_MISFIT = 14           /* a token that does not fit the grammar, at its start; Eof is at n */
 };
@@ -159,7 +159,10 @@ enum {
  *   node   a node number
  *   node?  a node number or none
  *   list   the number of the first member or none; the members follow by `next`
- *   name   two fields: where a name starts and ends in the source
+ *   name   two fields: where a name starts and ends in the source, in bytes
+ *
+ * A name is UTF-8 in any script: an XID_Start character of Unicode 15.0.0 or an underscore, then XID_Continue characters. It is not normalised: two names
+ * are the same where their bytes are.
  *
  * In a chain of comparisons, a<b<c, which is And(a<b, b<c), the node of b is held twice: who walks the tree by its fields comes to it twice. */
 enum {

@@ -1,8 +1,8 @@
 #!/bin/sh
 # Tests the repository's own tools: the map is that of today, the table of the gate's time is right for a stored log, and the makers of the stored cases
-# make them again, as does the maker of the tables of names. Each of these checks is shown to fail, on a copy in which it is not so. It wants Python 3.10 or
-# newer; the tables are made again where the Unicode Character Database of their version is at hand (Debian's package unicode-data, or the folder
-# UNICODE_DATA).
+# make them again, as do the makers of the tables of names and of widths. Each of these checks is shown to fail, on a copy in which it is not so. It wants
+# Python 3.10 or newer; the tables are made again where the Unicode Character Database of their version is at hand (Debian's package unicode-data, or the
+# folder UNICODE_DATA).
 #
 #     tools/test.sh        in about a minute
 #     tools/test.sh all    makes the cases of reader_cases again too, which takes as long again
@@ -124,48 +124,74 @@ yes "a refusal leaves the page" cmp "$work/before.md" "$work/page.md"
 
 # ---- the stored cases, made again
 make_cases() { # CRATE
-    mkdir -p "$work/$1/data" && python3 "tools/$1.py" "$work/$1" && { rmdir "$work/$1/data" 2>/dev/null || true; }
+    mkdir -p "$work/$1/data" || return 1
+    case $1 in
+    python_cases) python3 compare/cpython.py --cases "$work/$1" || return 1 ;;
+    *) python3 "tools/$1.py" "$work/$1" || return 1 ;;
+    esac
+    rmdir "$work/$1/data" 2>/dev/null || true
 }
 # The crate has each file that was made, and no other file of cases.
 same_cases() { # CRATE
     [ -s "$work/$1/stdout" ] || return 1
-    for part in stdin stdout data; do
+    for part in args stdin stdout data; do
         if [ -e "$work/$1/$part" ] || [ -e "crates/$1/$part" ]; then diff -rq "$work/$1/$part" "crates/$1/$part" || return 1; fi
     done
 }
-for crate in leaf_cases scan_cases expr_cases ${1:+reader_cases}; do
+for crate in leaf_cases scan_cases expr_cases python_cases ${1:+reader_cases}; do
     yes "the cases of $crate are made" make_cases "$crate"
     yes "the cases of $crate" same_cases "$crate"
 done
 echo x >>"$work/expr_cases/stdin"
 no "a case that is not the stored one" "differ" same_cases expr_cases
+# U+A500 came with Unicode 5.1: no expected value is made of a character that the reference does not tell.
+untold() { printf '\352\224\200' | python3 tools/reference/read.py; }
+no "a character of which nothing is told" "Untold: U+A500" untold
 
-# ---- the tables of names, made again
+# ---- the tables of names and of widths, made again
 unicode=${UNICODE_DATA:-/usr/share/unicode}
-make_tables() { # FOLDER NAME
-    python3 tools/xid.py "$1" "$work/$2"
+make_tables() { # TOOL FOLDER NAME
+    python3 "tools/$1.py" "$2" "$work/$3"
 }
-# The crate has each file that was made.
+# The repository has each file that was made.
 same_tables() { # NAME
-    (cd "$work/$1" && find crates/xid -type f) >"$work/made" && [ -s "$work/made" ] || return 1
+    (cd "$work/$1" && find . -type f) >"$work/made" && [ -s "$work/made" ] || return 1
     while read -r file; do diff -q "$work/$1/$file" "$file" || return 1; done <"$work/made"
 }
-properties=$unicode/DerivedCoreProperties.txt
+# A folder with the files of the database, one of them edited.
+edit_unicode() { # FILE SED
+    rm -rf "$work/unicode"
+    mkdir -p "$work/unicode/extracted"
+    for file in $files; do ln -s "$(realpath "$unicode/$file.txt")" "$work/unicode/$file.txt"; done
+    rm "$work/unicode/$1.txt"
+    sed "$2" "$unicode/$1.txt" >"$work/unicode/$1.txt" && ! cmp -s "$unicode/$1.txt" "$work/unicode/$1.txt"
+}
+files="DerivedCoreProperties EastAsianWidth PropList extracted/DerivedGeneralCategory"
 version=$(sed -n '1s/.*Unicode Character Database, version \([0-9.]*[0-9]\)).*/\1/p' crates/xid/specs/Tables.antt)
-if ! [ -r "$properties" ]; then
-    echo "not tried: the tables of xid, since $unicode has no DerivedCoreProperties.txt"
-elif ! head -n 1 "$properties" | grep -qxF "# DerivedCoreProperties-$version.txt"; then
-    echo "not tried: the tables of xid, since DerivedCoreProperties.txt of $unicode is not of Unicode $version"
+lacks=
+for file in $files; do
+    head -n 1 "$unicode/$file.txt" 2>/dev/null | grep -qxF "# ${file#extracted/}-$version.txt" || lacks="$lacks $file.txt"
+done
+if [ "$lacks" ]; then
+    echo "not tried: the tables of names and of widths, since $unicode lacks these files of Unicode $version:$lacks"
 else
-    yes "the tables of xid are made" make_tables "$unicode" tables
+    yes "the tables of xid are made" make_tables xid "$unicode" tables
     yes "the tables of xid" same_tables tables
-    mkdir "$work/unicode"
-    sed 's/^0376\.\.0377/0376..0378/' "$properties" >"$work/unicode/DerivedCoreProperties.txt"
-    no "a code point more than the file says" "XID_Start has 136323 code points, and the file says 136322" make_tables "$work/unicode" more
-    sed 's/^0376\.\.0377/0376..0378/; s/^\(# Total code points: \)136322$/\1136323/; s/^\(# Total code points: \)139463$/\1139464/' "$properties" \
-        >"$work/unicode/DerivedCoreProperties.txt"
-    yes "another table is made" make_tables "$work/unicode" other
+    yes "a code point more" edit_unicode DerivedCoreProperties 's/^0376\.\.0377/0376..0378/'
+    no "a code point more than the file says" "XID_Start has 136323 code points, and the file says 136322" make_tables xid "$work/unicode" more
+    yes "a code point more, and said" edit_unicode DerivedCoreProperties \
+        's/^0376\.\.0377/0376..0378/; s/^\(# Total code points: \)136322$/\1136323/; s/^\(# Total code points: \)139463$/\1139464/'
+    yes "another table is made" make_tables xid "$work/unicode" other
     no "a table that is not the stored one" "differ" same_tables other
+    yes "the widths are made" make_tables widths "$unicode" widths
+    yes "the widths" same_tables widths
+    yes "a character that is not ignored" edit_unicode DerivedCoreProperties 's/^3164 .*; Default_Ignorable.*//'
+    yes "other widths are made" make_tables widths "$work/unicode" narrow
+    no "widths that are not the stored ones" "differ" same_tables narrow
+    yes "a file of another version" edit_unicode PropList '1s/-.*/-15.1.0.txt/'
+    no "a file of another version is refused" "PropList.txt is of version 15.1.0, and another file of $version" make_tables widths "$work/unicode" mixed
+    yes "a property that is not there" edit_unicode PropList 's/.*; Prepended_Concatenation_Mark.*//'
+    no "a property that is not there is missed" "PropList.txt lacks one of Prepended_Concatenation_Mark" make_tables widths "$work/unicode" lacking
 fi
 
 echo "$passed passed, $failed failed"

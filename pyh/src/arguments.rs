@@ -33,6 +33,15 @@ pub const LISTED: &str = "\
   --               ends the options: all that follows is a name
 ";
 
+/// What the help of each command says of places.
+pub const PLACES: &str = "\
+Lines and columns count from 1. A column counts characters (code points), not
+bytes and not columns of a terminal: é, 한 and 🛗 are one each, and an accent
+that is put on the letter before it is one more. The caret goes by the columns
+of a terminal, two for 한 and none for such an accent. Where a terminal turns
+Arabic or Hebrew text around, the caret stands as in the script's own order.
+";
+
 pub const STATUS: &str = "\
 exit status, the highest that applies: 0 all accepted, 1 a script is refused,
 2 something can't be read or written, or the command line is wrong
@@ -99,7 +108,7 @@ pub fn no_option(name: &OsStr, options: &'static [Choice]) -> String {
         return format!("{} takes no value", quoted(name));
     }
     let near = nearest(name, BOTH.into_iter().chain(options.iter().map(|o| o.name)));
-    format!("no option is called {}; the nearest is '{near}'", quoted(name))
+    format!("no option is called {}{near}", quoted(name))
 }
 
 /// The option that a word names, and its value, if that stands behind a `=`.
@@ -120,14 +129,14 @@ fn chosen(option: &'static Choice, value: Option<OsString>) -> Result<&'static s
         Some(v) => Ok(v),
         None => {
             let near = nearest(&value, option.values.iter().copied());
-            Err(format!("'{}' can't be {}: it is one of {all}; the nearest is '{near}'", option.name, quoted(&value)))
+            Err(format!("'{}' can't be {}: it is one of {all}{near}", option.name, quoted(&value)))
         }
     }
 }
 
-/// The name that the word begins, or else the one with the fewest slips from it, a capital for a small letter counted last. Where the word has two dashes,
-/// so has the name, if there are such.
-pub fn nearest(word: &OsStr, names: impl Iterator<Item = &'static str>) -> &'static str {
+/// Words on the name that the word begins, or else on the one with the fewest slips from it, a capital for a small letter counted last. Where the word has two
+/// dashes, so has the name, if there are such. None are said of a name in which no letter is right.
+pub fn nearest(word: &OsStr, names: impl Iterator<Item = &'static str>) -> String {
     let letters = |text: &str| text.chars().collect::<Vec<char>>();
     let small = |text: &str| letters(&text.to_lowercase());
     let word = &*word.to_string_lossy();
@@ -135,7 +144,12 @@ pub fn nearest(word: &OsStr, names: impl Iterator<Item = &'static str>) -> &'sta
         let dashes = word.starts_with("--") && !name.starts_with("--");
         (dashes, !name.starts_with(word), slips(&small(word), &small(name)), slips(&letters(word), &letters(name)))
     };
-    names.min_by_key(key).expect("there are names")
+    let name = names.min_by_key(key).expect("there are names");
+    let (_, other, wrong, _) = key(&name);
+    if other && wrong == small(word).len().max(small(name).len()) {
+        return String::new();
+    }
+    format!("; the nearest is '{name}'")
 }
 
 /// How many letters must be put in, left out or changed to make the one of the other.

@@ -39,14 +39,14 @@ const LISTED: &str = "\
 ";
 
 const NOTES: &str = "\
-Lines and columns count from 1. A column counts characters, not bytes: é is one.
-The place in json counts bytes, from 0. A script that is too long (number 1) has
-no place of its own, and stands at 1:1.
+Line and column in json are the same, and its place counts bytes, from 0. A
+script that is too long (number 1) has no place of its own, and stands at 1:1.
 
 numbers: 1 too long, 5 no UTF-8, 6 a tab in the indentation, 7 indented by other
-than two more, 8 back on no level, 9 no token, 10 a whole number out of range,
-11 a number with a dot that is not read, 12 a character other than ASCII outside
-of strings and comments, 13 nested too deeply, 14 does not fit the grammar
+than two more, 8 back on no level, 9 no token (a character that means nothing, a
+string that is not closed), 10 a whole number out of range, 11 a number with a
+dot that is not read, 13 nested too deeply, 14 does not fit the grammar; no
+script gets 12
 
 In a name, bytes that are no UTF-8 are shown as in \\xE9, what no one sees as in
 \\n or \\u{1b}, a backslash as \\\\. In json the name is itself; where it is no

@@ -1,5 +1,5 @@
 //! An indented drawing of a tree.
-use crate::excerpt::plain;
+use crate::excerpt::{cut, plain};
 use crate::terminal::{Look, GREEN};
 use std::fmt::Write;
 use tarbucket::{List, Node, Shape, Tree};
@@ -72,11 +72,10 @@ fn signature(name: &[u8], parameters: List) -> String {
 
 fn string(bytes: &[u8]) -> String {
     let text = String::from_utf8_lossy(bytes);
-    if text.chars().count() <= LONGEST {
-        return format!("String {text:?}");
+    match cut(&text, LONGEST) {
+        Some(front) => format!("String {front:?}… ({} bytes)", bytes.len()),
+        None => format!("String {text:?}"),
     }
-    let front: String = text.chars().take(LONGEST).collect();
-    format!("String {front:?}… ({} bytes)", bytes.len())
 }
 
 /// A node's own line, and its parts.

@@ -1,6 +1,6 @@
 //! Lines, columns, and a line with a caret.
 use crate::terminal::{Look, BLUE, RED};
-use crate::widths::{NONE, WIDE};
+use crate::widths::{NONE, UNSEEN, WIDE};
 
 /// The widest part of a line that is shown where the output is no terminal, and the narrowest where it is one.
 const WIDEST: usize = 100;
@@ -27,21 +27,22 @@ pub fn locate(src: &[u8], place: usize) -> At {
     At { line, column, place: place.min(to), from, to }
 }
 
-/// Marks that no one sees, or that turn the line's direction.
+fn within(table: &[(u32, u32)], c: char) -> bool {
+    let next = table.partition_point(|range| range.0 <= c as u32);
+    next > 0 && c as u32 <= table[next - 1].1
+}
+
+/// Marks that no one sees, of which names can have some, or that turn the line's direction.
 pub fn unseen(c: char) -> bool {
-    matches!(c as u32, 0xAD | 0x61C | 0x180E | 0x200B..=0x200F | 0x2028..=0x202E | 0x2060..=0x206F | 0xFEFF | 0xE0000..=0xE007F)
+    within(&UNSEEN, c)
 }
 
 /// How many columns of a terminal a character takes.
-fn columns(c: char) -> usize {
-    let within = |table: &[(u32, u32)]| {
-        let next = table.partition_point(|range| range.0 <= c as u32);
-        next > 0 && c as u32 <= table[next - 1].1
-    };
+pub fn columns(c: char) -> usize {
     match c as u32 {
         0..=0xAC => 1,
-        _ if within(&NONE) => 0,
-        _ if within(&WIDE) => 2,
+        _ if within(&NONE, c) => 0,
+        _ if within(&WIDE, c) => 2,
         _ => 1,
     }
 }
@@ -81,6 +82,14 @@ pub fn plain(bytes: &[u8]) -> String {
     String::from_utf8_lossy(bytes).chars().map(|c| cell(c).0).collect()
 }
 
+/// The first characters of a text that has more; marks stay with their letter, but for more of them than that.
+pub fn cut(text: &str, most: usize) -> Option<&str> {
+    let starts: Vec<(usize, char)> = text.char_indices().take(most + 1).collect();
+    let last = starts.get(most)?;
+    let (end, _) = starts[1..].iter().rev().find(|(_, c)| columns(*c) > 0).unwrap_or(last);
+    Some(&text[..*end])
+}
+
 type Cell = (char, usize);
 
 fn width(cells: &[Cell]) -> usize {
@@ -100,14 +109,20 @@ fn around(cells: &[Cell], place: usize, widest: usize) -> std::ops::Range<usize>
         }
     };
     let left = place - cells[..place].iter().rev().take_while(fitting(widest * 3 / 5)).count();
+    // marks whose letter is cut away
+    let left = left + cells[left..place].iter().take_while(|cell| cell.1 == 0).count();
     let right = left + cells[left..].iter().take_while(fitting(widest)).count();
     left..right
 }
 
 /// The line with a caret under the place. Of a long line the part around the place is shown.
 pub fn shown(src: &[u8], at: &At, look: &Look) -> String {
-    let cells: Vec<Cell> = String::from_utf8_lossy(&src[at.from..at.to]).chars().map(cell).collect();
+    let mut cells: Vec<Cell> = String::from_utf8_lossy(&src[at.from..at.to]).chars().map(cell).collect();
     let place = String::from_utf8_lossy(&src[at.from..at.place]).chars().count();
+    // a mark at the place would stand on the character before it
+    if cells.get(place).is_some_and(|cell| cell.1 == 0) {
+        cells.insert(place, ('◌', 1));
+    }
     let number = at.line.to_string();
     // beside the line stand its number, five columns and a mark at each end where it is cut; the last column stays free
     let widest = look.columns.map_or(WIDEST, |all| all.saturating_sub(number.len() + 8).max(NARROWEST));

@@ -2,6 +2,7 @@
 //!
 //! A command has a file of its own with its entry in [`COMMANDS`]: name, help, options and what it does.
 mod arguments;
+mod character;
 mod check;
 mod drawing;
 mod excerpt;
@@ -18,7 +19,7 @@ mod source;
 mod terminal;
 mod widths;
 
-use arguments::{nearest, no_option, parted, Asked, Command, LISTED, STATUS};
+use arguments::{nearest, no_option, parted, Asked, Command, LISTED, PLACES, STATUS};
 use names::quoted;
 use output::{print, say};
 use std::ffi::{OsStr, OsString};
@@ -43,7 +44,7 @@ fn help() -> String {
 
 fn help_of(command: &Command) -> String {
     let Command { usage, about, listed, notes, .. } = command;
-    format!("{usage}\n\n{about}\noptions:\n{listed}{LISTED}\n{notes}\n{STATUS}")
+    format!("{usage}\n\n{about}\noptions:\n{listed}{LISTED}\n{PLACES}\n{notes}\n{STATUS}")
 }
 
 fn version() -> String {
@@ -118,7 +119,7 @@ fn no_command(word: &OsStr) -> String {
         let meant = if path.is_dir() { "check" } else { "show" };
         return format!("no command is called {shown}; is 'pyh {meant} {}' meant?", names::shown(word));
     }
-    format!("no command is called {shown}; the nearest is '{}'", nearest(word, COMMANDS.iter().map(|c| c.name)))
+    format!("no command is called {shown}{}", nearest(word, COMMANDS.iter().map(|c| c.name)))
 }
 
 fn main() -> ExitCode {

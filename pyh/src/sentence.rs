@@ -1,5 +1,6 @@
 //! A short plain sentence for each number.
-use crate::excerpt::{plain, unseen};
+use crate::character::character;
+use crate::excerpt::{cut, plain};
 use crate::misfit::misfit;
 use crate::source::{before, indentation, line_number, token};
 use tarbucket::Error;
@@ -21,7 +22,6 @@ pub fn sentence(src: &[u8], error: Error) -> String {
             format!("{} is out of range: whole numbers go from -9223372036854775808 to 9223372036854775807.", quoted(token(here)))
         }
         Error::FloatRange { .. } => float(token(here)),
-        Error::NotAscii { .. } => not_ascii(place, here),
         Error::TooDeep { .. } => "This is nested too deeply: at most 64 expressions and blocks may be open at once.".to_string(),
         Error::Misfit { .. } => misfit(src, place),
         _ => format!("The reader gave the number {}.", error.number()),
@@ -38,8 +38,8 @@ pub fn spaces(line: &[u8]) -> String {
 /// A part of the script between backquotes, cut where it is long.
 pub fn quoted(part: &[u8]) -> String {
     let whole = plain(part);
-    match whole.char_indices().nth(QUOTED) {
-        Some((end, _)) => format!("`{}…`", &whole[..end]),
+    match cut(&whole, QUOTED) {
+        Some(front) => format!("`{front}…`"),
         None => format!("`{whole}`"),
     }
 }
@@ -57,6 +57,7 @@ fn no_token(src: &[u8], place: usize) -> String {
         Some(b'&') => "`&` means nothing here: write `and`.".to_string(),
         Some(b'|') => "`|` means nothing here: write `or`.".to_string(),
         Some(b'`') => "A backquote means nothing here: strings stand in \" or '.".to_string(),
+        Some(128..) => character(&String::from_utf8_lossy(&src[place..]), place == 0),
         _ => format!("{} means nothing here.", quoted(&src[place..src.len().min(place + 1)])),
     }
 }
@@ -70,43 +71,4 @@ fn open_string(src: &[u8], place: usize) -> String {
         }
         _ => why.to_string(),
     }
-}
-
-fn not_ascii(place: usize, here: &[u8]) -> String {
-    let c = String::from_utf8_lossy(here).chars().next().unwrap_or(' ');
-    let number = c as u32;
-    match c {
-        '\u{FEFF}' if place == 0 => return "The file begins with a byte order mark: save it as UTF-8 without one.".to_string(),
-        '“' | '”' | '„' | '‘' | '’' | '‚' | '«' | '»' | '′' | '″' | '´' => {
-            return format!("`{c}` is no quote of the language: use \" or '.")
-        }
-        '\u{A0}' | '\u{1680}' | '\u{2000}'..='\u{200A}' | '\u{202F}' | '\u{205F}' | '\u{3000}' => {
-            return format!("An unusual space stands here (U+{number:04X}): use the plain one.");
-        }
-        _ if unseen(c) || c.is_control() => return format!("A character that no one sees stands here (U+{number:04X}): delete it."),
-        _ => {}
-    }
-    match meant(c) {
-        Some(meant) => format!("`{c}` means nothing here: write `{meant}`."),
-        None if c.is_alphanumeric() => {
-            format!("`{c}` cannot start a word here, nor go on with one: names have the letters a to z and A to Z, digits and `_`.")
-        }
-        None => format!("`{c}` means nothing here."),
-    }
-}
-
-/// What the language has for a sign that looks like it.
-fn meant(c: char) -> Option<String> {
-    let sign = match c {
-        '‐' | '‑' | '‒' | '–' | '—' | '−' => "-",
-        '×' => "*",
-        '÷' => "/",
-        '≤' => "<=",
-        '≥' => ">=",
-        '≠' => "!=",
-        // the wide forms of ASCII
-        '\u{FF01}'..='\u{FF5E}' => return char::from_u32(c as u32 - 0xFEE0).map(String::from),
-        _ => return None,
-    };
-    Some(sign.to_string())
 }

@@ -25,7 +25,6 @@ place, and says why. Where no FILE is named, and for -, it reads standard input.
 ";
 
 const NOTES: &str = "\
-Lines and columns count from 1. A column counts characters, not bytes: é is one.
 Colours are there on a terminal, unless NO_COLOR is set.
 ";
 

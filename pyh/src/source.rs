@@ -66,7 +66,8 @@ pub fn indentation(line: &[u8]) -> usize {
     line.iter().take_while(|&&b| b == b' ').count()
 }
 
-/// The token at the front of the bytes.
+/// The token at the front of the bytes: a number that is refused, or any of a script whose tokens were all found, so that all bytes over 127 outside of strings
+/// and comments are those of names.
 pub fn token(here: &[u8]) -> &[u8] {
     let run = |from: usize, f: fn(u8) -> bool| from + here[from..].iter().take_while(|&&b| f(b)).count();
     let digit = |i: usize| here.get(i).is_some_and(u8::is_ascii_digit);
@@ -74,13 +75,17 @@ pub fn token(here: &[u8]) -> &[u8] {
         None => 0,
         Some(b'0'..=b'9') => number_end(here),
         Some(b'+' | b'-') if digit(1) => run(1, |b| b.is_ascii_digit()),
-        Some(&b) if b.is_ascii_alphanumeric() || b == b'_' => run(0, |b| b.is_ascii_alphanumeric() || b == b'_'),
+        Some(&b) if in_word(b) => run(0, in_word),
         Some(b'"' | b'\'') => string_end(here),
         Some(b'=' | b'<' | b'>' | b'!') if here.get(1) == Some(&b'=') => 2,
         Some(b'/') if here.get(1) == Some(&b'/') => 2,
         Some(_) => 1,
     };
     &here[..end]
+}
+
+fn in_word(b: u8) -> bool {
+    b.is_ascii_alphanumeric() || b == b'_' || b > 127
 }
 
 fn number_end(here: &[u8]) -> usize {

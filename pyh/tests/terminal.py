@@ -11,6 +11,8 @@ import time
 
 LONG = '["%s"] oben ["%s"]\n' % ('", "'.join("Halle %d" % i for i in range(40)), '", "'.join("층 %d" % i for i in range(40)))
 DEEP = "(" * 30 + "a" + ",)" * 30 + "\n"
+MARKS = "α\u0301" * 60 + " ε\u0301ξοδος" + "α\u0301" * 60 + "\n"
+KOREAN = "안내 = 북관 + 남관, 층수(1), 북관_입구, 남관_입구 승강기, 계단, 출구, 매표소, 화장실\n"
 
 # NAME, the words, columns, what is other in the environment
 SHOWN = [
@@ -26,6 +28,8 @@ SHOWN = [
     ("show_term_empty", ["show", "long.pyh"], 80, {"TERM": ""}),
     ("show_term_unset", ["show", "long.pyh"], 80, {"TERM": None}),
     ("show_sentence", ["show", "words.pyh"], 40, {"NO_COLOR": "1"}),
+    ("show_marks", ["show", "marks.pyh"], 40, {"NO_COLOR": "1"}),
+    ("show_korean", ["show", "korean.pyh"], 40, {"NO_COLOR": "1"}),
     ("check_text", ["check", "good.pyh", "long.pyh", "missing.pyh"], 80, {}),
     ("check_accepted", ["check", "good.pyh"], 80, {}),
     ("check_short", ["check", "--format", "short", "good.pyh", "long.pyh"], 80, {}),
@@ -35,8 +39,9 @@ SHOWN = [
 
 
 def run(cases, work, tally):
-    for name, text in (("good.pyh", "lift = 3\n"), ("long.pyh", LONG), ("deep.pyh", DEEP), ("words.pyh", "left = total-1\n")):
-        with open(os.path.join(work, name), "w", encoding="utf8") as file:
+    scripts = {"good": "lift = 3\n", "long": LONG, "deep": DEEP, "words": "left = total-1\n", "marks": MARKS, "korean": KOREAN}
+    for name, text in scripts.items():
+        with open(os.path.join(work, name + ".pyh"), "w", encoding="utf8") as file:
             file.write(text)
     for name, words, columns, other in SHOWN:
         written, status = on_terminal(words, work, columns, other)

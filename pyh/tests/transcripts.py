@@ -64,6 +64,7 @@ def make_kiosks(folder):
     os.mkfifo(os.path.join(folder, "odd/pipe.pyh"))
     put(folder, b"names/caf\xe9.pyh", b"a b\n")
     put(folder, "names/café.pyh", b"a b\n")
+    put(folder, "names/홀.pyh", "홀 층\n".encode())
     put(folder, "names/two\nlines \x1b[31m.pyh", b"a b\n")
     put(folder, "names/-h", b"a b\n")
     put(folder, "names/--format=json", b"a b\n")

@@ -1,6 +1,7 @@
 use std::fmt;
 
-/// Why a source is refused. Each case has a number, from 1 to 14, and all from 5 on a place: the byte of the source where it is refused.
+/// Why a source is refused. Each case has a number, from 1 to 14, and all from 5 on a place: the byte of the source where it is refused. The number 12 is
+/// reserved, and no source gets it.
 #[derive(Clone, Copy, Debug, PartialEq, Eq)]
 #[non_exhaustive]
 pub enum Error {
@@ -20,19 +21,17 @@ pub enum Error {
     TooFar { place: u32 },
     /// 8: back on no open level, where the line starts.
     NoLevel { place: u32 },
-    /// 9: no token matches.
+    /// 9: no token matches; a character over 127 that begins no name is such a place.
     NoToken { place: u32 },
     /// 10: an Int out of the range of 64 bits.
     IntRange { place: u32 },
     /// 11: a Float that is not admitted.
     FloatRange { place: u32 },
-    /// 12: a byte over 127 where a token would start.
-    NotAscii { place: u32 },
     /// 13: more than 64 expressions and blocks open at once; with T and the rules opened till then.
     TooDeep { place: u32, tokens: u32, openings: u32 },
     /// 14: a token that does not fit the grammar; with T and the rules opened till then.
     Misfit { place: u32, tokens: u32, openings: u32 },
-    /// A number that this version does not know.
+    /// A number that this version does not know, 12 among them.
     Unknown { number: u32, place: u32 },
 }
 
@@ -50,7 +49,6 @@ impl Error {
             9 => Error::NoToken { place },
             10 => Error::IntRange { place },
             11 => Error::FloatRange { place },
-            12 => Error::NotAscii { place },
             13 => Error::TooDeep { place, tokens, openings },
             14 => Error::Misfit { place, tokens, openings },
             _ => Error::Unknown { number, place },
@@ -70,7 +68,6 @@ impl Error {
             Error::NoToken { .. } => 9,
             Error::IntRange { .. } => 10,
             Error::FloatRange { .. } => 11,
-            Error::NotAscii { .. } => 12,
             Error::TooDeep { .. } => 13,
             Error::Misfit { .. } => 14,
             Error::Unknown { number, .. } => number,
@@ -88,7 +85,6 @@ impl Error {
             | Error::NoToken { place }
             | Error::IntRange { place }
             | Error::FloatRange { place }
-            | Error::NotAscii { place }
             | Error::TooDeep { place, .. }
             | Error::Misfit { place, .. }
             | Error::Unknown { place, .. } => place,

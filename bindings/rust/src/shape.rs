@@ -1,7 +1,8 @@
 use crate::kind::{BinaryOp, Kind, UnaryOp};
 use crate::tree::{List, Node};
 
-/// A node by its kind, with its parts. Names are bytes of the source, a String's value the decoded bytes.
+/// A node by its kind, with its parts. Names are bytes of the source, UTF-8 in any script and not normalised: two are the same where their bytes are. A
+/// String's value is the decoded bytes.
 #[derive(Clone, Debug)]
 pub enum Shape<'a> {
     Program { lines: List<'a> },

@@ -9,7 +9,7 @@ fn number_and_place(src: &[u8]) -> (u32, usize) {
 
 #[test]
 fn scripts_of_the_definition() {
-    let cases: [(&[u8], u32, usize); 18] = [
+    let cases: [(&[u8], u32, usize); 23] = [
         (b"", 0, 0),
         (b"a-1", 14, 1),
         (b"-1.5", 14, 3),
@@ -25,7 +25,12 @@ fn scripts_of_the_definition() {
         (b"if a:\n   b\n", 7, 6),
         (b"if a:\n  b\n c\n", 8, 10),
         (b"1.0e24", 11, 0),
-        (b"a\xc3\xa9", 12, 1),
+        ("aé".as_bytes(), 0, 0),
+        ("é".as_bytes(), 0, 0),
+        ("℘".as_bytes(), 0, 0),
+        ("a€".as_bytes(), 9, 1),
+        ("·".as_bytes(), 9, 0),
+        ("a·".as_bytes(), 0, 0),
         (b"\xff", 5, 0),
         (b"$", 9, 0),
     ];
@@ -38,6 +43,15 @@ fn scripts_of_the_definition() {
     assert_eq!(number_and_place(&deep), (13, 64));
     assert_eq!(number_and_place(&deep[1..128]), (0, 0));
     assert_eq!(number_and_place(&[b' '; LONGEST + 1]), (1, 0));
+}
+
+#[test]
+fn numbers_of_errors() {
+    for number in 1..20 {
+        let error = Error::of(number, 7, 0, 0);
+        assert_eq!((error.number(), error.place()), (number, if number < 5 { 0 } else { 7 }));
+        assert_eq!(matches!(error, Error::Unknown { .. }), number == 12 || number > 14);
+    }
 }
 
 #[test]
@@ -71,6 +85,25 @@ fn literals_and_names() {
     assert!(matches!(shapes[4], Shape::None));
     let Shape::Attribute { object, name } = shapes[5] else { panic!() };
     assert!(name == b"z" && matches!(object.shape(), Shape::Variable { name: b"y" }));
+}
+
+#[test]
+fn names_in_any_script() {
+    let mut reader = Reader::new();
+    // Korean, Greek with an accent of its own, Devanagari with vowel signs, and a letter beyond U+FFFF: spans count bytes
+    let src = "홀 = στοα\u{301}.गलियारा + 𐐷\n";
+    let tree = reader.read(src.as_bytes()).unwrap();
+    let named = |node: Node| match node.shape() {
+        Shape::Variable { name } | Shape::Attribute { name, .. } => Some((String::from_utf8_lossy(name).into_owned(), node.span())),
+        _ => None,
+    };
+    let names: Vec<_> = tree.walk().filter_map(|(_, node)| named(node)).collect();
+    let expected = [("홀", 0..45), ("गलियारा", 6..38), ("στοα\u{301}", 6..16), ("𐐷", 41..45)];
+    assert_eq!(names, expected.map(|(name, span)| (name.to_string(), span)));
+    // not normalised: both are an é, and two names
+    let tree = reader.read("\u{e9} == e\u{301}\n".as_bytes()).unwrap();
+    let names: Vec<usize> = tree.walk().filter(|(_, node)| node.kind() == Kind::Variable).map(|(_, node)| node.text().len()).collect();
+    assert_eq!(names, [2, 3]);
 }
 
 #[test]
