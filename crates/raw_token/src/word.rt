@@ -9,7 +9,7 @@ ghost use Rattle.raw_token.specs.Pattern.{beginsName, continuesName, cha
 ghost use Rattle.raw_token.specs.Parts.{keywords, codeOf, asciiBegins, asciiContinues, Spelt, wordAt, nameAt};
 use crate::RawToken;
 
-// Where letters end, and their number to the base 256, of which the last eight count.
+// Where the ASCII characters of a name end, and their number to the base 256, of which the last eight count.
 pub(crate) struct Spelling {
     pub end: usize,
     pub number: u64,

@@ -15,7 +15,7 @@ between lo hi b = leb lo b && leb b hi
 abbrev pub digit : ℕ → Bool
 digit b = between 48 57 b
 
--- a to z, A to Z
+-- a to z, A to Z: the letters of "Name: letter or underscore, then letters, digits, underscores" (01, Raw tokens) below 128
 abbrev pub letter : ℕ → Bool
 letter b = between 97 122 b || between 65 90 b
 
