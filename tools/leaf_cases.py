@@ -17,6 +17,7 @@ sys.dont_write_bytecode = True
 sys.path.insert(0, os.path.join(os.path.dirname(os.path.abspath(__file__)), "reference"))
 import name_cases  # noqa: E402
 from character_cases import character_cases, character_expected, identifier  # noqa: E402
+from utf8_cases import utf8_cases, utf8_expected  # noqa: E402
 
 sys.set_int_max_str_digits(0)
 LARGEST_FILE = 65536  # the program reads a file into a buffer of this size
@@ -185,51 +186,6 @@ def string_cases():
 def string_expected(body):
     decoded = re.sub(rb"\\(.)", lambda m: DECODED.get(m[1], m[0]), body, flags=re.DOTALL)
     return f"{decoded.hex()} {len(decoded)}"
-
-
-# ---- UTF-8: `u HEX` ----
-
-TAIL = (0x80, 0xBF)
-TABLE_3_7 = [
-    [(0x00, 0x7F)],
-    [(0xC2, 0xDF), TAIL],
-    [(0xE0, 0xE0), (0xA0, 0xBF), TAIL],
-    [(0xE1, 0xEC), TAIL, TAIL],
-    [(0xED, 0xED), (0x80, 0x9F), TAIL],
-    [(0xEE, 0xEF), TAIL, TAIL],
-    [(0xF0, 0xF0), (0x90, 0xBF), TAIL, TAIL],
-    [(0xF1, 0xF3), TAIL, TAIL, TAIL],
-    [(0xF4, 0xF4), (0x80, 0x8F), TAIL, TAIL],
-]
-
-
-def damaged(row):
-    """The lowest and the highest sequence of the row with each byte replaced by one below its range, one above and a letter, and cut off there."""
-    for whole in [bytes(lo for lo, _ in row), bytes(hi for _, hi in row)]:
-        for j, (lo, hi) in enumerate(row):
-            for b in [lo - 1, hi + 1, 0x41]:
-                if 0 <= b <= 0xFF:
-                    yield whole[:j] + bytes([b]) + whole[j + 1 :]
-            yield whole[:j]
-
-
-def utf8_cases():
-    prefixes = [text.encode() for text in ["", "a", "\u00e9", "ab\u20ac", "\U0001f600", "\ud7ff\ue000x", "x" * 60, "\u00e9" * 33, "\U0010ffff\u07ff\u0800\uffff"]]
-    cases = prefixes + [bytes([b]) for b in range(0x100)] + [bytes([b, 0x80, 0x80, 0x80]) for b in range(0x80, 0x100)]
-    cases += [bytes(ends) for row in TABLE_3_7 for ends in itertools.product(*row)]
-    turn = itertools.cycle(prefixes)
-    for row in TABLE_3_7:
-        for bad in damaged(row):
-            cases += [next(turn) + bad, next(turn) + bad + b"z", next(turn) + bad + "\u20ac".encode()]
-    return cases + [b"a" * 2000 + b"\xc3", "\u00e9".encode() * 700 + b"\xed\xa0\x80", "\U0001f600".encode() * 500, b"\xc3\xa9\xff\xff"]
-
-
-def utf8_expected(text):
-    try:
-        text.decode("utf-8")
-        return "well-formed"
-    except UnicodeDecodeError as error:
-        return str(error.start)
 
 
 # ---- files ----

@@ -66,12 +66,16 @@ pub fn print_string(s: &[u8])
 }
 
 pub fn print_utf8(s: &[u8]) {
-    match utf8::utf8_error(s) {
+    let checked = utf8::utf8_error(s);
+    let found = checked.found;
+    match found {
         Utf8::WellFormed => print(b"well-formed"),
         Utf8::IllFormed(at) => {
             io::print_decimal(STDOUT_FILENO, at as u64);
         }
     }
+    print(b" ");
+    io::print_decimal(STDOUT_FILENO, checked.rounds as u64);
 }
 
 fn print_character(c: Character) {

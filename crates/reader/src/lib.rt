@@ -176,7 +176,8 @@ pub fn parse_source(src: &[u8], tokens: &mut [u32], text: &mut [u8], tree: &mut 
     if tree.len() < tree_words {
         return no(4, 0);
     }
-    match utf8::utf8_error(src) {
+    let found = utf8::utf8_error(src).found;
+    match found {
         Utf8::IllFormed(place) => no(5, place),
         Utf8::WellFormed => read_areas(
             src,

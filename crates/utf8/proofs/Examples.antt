@@ -1,4 +1,4 @@
--- What the definition says of a few short texts, computed.
+-- What the definitions say of a few short texts, computed.
 -- Assumes nothing.
 use mathlib.Core.Path.{_≡_, refl}
 use mathlib.Core.List.{List, [], _∷_}
@@ -6,7 +6,7 @@ use Prim.Native.Nat.{ℕ}
 use Rattle.source.specs.Text.{bytes}
 use Rattle.utf8.specs.declared.Utf8.{Utf8}
 use Rattle.utf8.specs.declared.Utf8.the-variants.{WellFormed, IllFormed}
-use Rattle.utf8.specs.Table.{rows, sequenceLength, firstIllFormed, utf8Error}
+use Rattle.utf8.specs.Table.{rows, sequenceLength, firstIllFormed, utf8Error, eight, taken, roundsPast, rounds}
 use Rattle.utf8.specs.Character.{firstCode}
 
 says : List ℕ → Utf8
@@ -67,3 +67,27 @@ first-codes = (refl, refl, refl)
 last-codes : (firstCode (0xDF ∷ 0xBF ∷ []) ≡ 0x7FF) × (firstCode (0xEF ∷ 0xBF ∷ 0xBF ∷ []) ≡ 0xFFFF) × (firstCode (0xF4 ∷ 0x8F ∷ 0xBF ∷ 0xBF ∷ []) ≡ 0x10FFFF)
 unfolding firstCode sequenceLength rows
 last-codes = (refl, refl, refl)
+
+-- the rounds
+counts : List ℕ → ℕ
+unfolding rows sequenceLength eight taken roundsPast rounds
+counts s = rounds s
+
+-- nothing, one byte, seven bytes below 128, eight, nine and seventeen
+few-rounds : (counts [] ≡ 0) × (counts (bytes "a") ≡ 1) × (counts (bytes "if a:\n ") ≡ 7)
+unfolding counts
+few-rounds = (refl, refl, refl)
+
+eight-rounds : (counts (bytes "if abc:\n") ≡ 1) × (counts (bytes "if abcd:\n") ≡ 2) × (counts (bytes "if abc:\n  pass\n\n\n") ≡ 3)
+unfolding counts
+eight-rounds = (refl, refl, refl)
+
+-- U+00E9 behind seven bytes: each is a round; behind eight: two; in front of eight: two
+around : (counts (0x61 ∷ 0x61 ∷ 0x61 ∷ 0x61 ∷ 0x61 ∷ 0x61 ∷ 0x61 ∷ 0xC3 ∷ 0xA9 ∷ []) ≡ 8) × (counts (0x61 ∷ 0x61 ∷ 0x61 ∷ 0x61 ∷ 0x61 ∷ 0x61 ∷ 0x61 ∷ 0x61 ∷ 0xC3 ∷ 0xA9 ∷ []) ≡ 2) × (counts (0xC3 ∷ 0xA9 ∷ bytes "if abc:\n") ≡ 2)
+unfolding counts
+around = (refl, refl, refl)
+
+-- an ill-formed sequence is a round, and the last; 128 as the eighth byte
+bad-rounds : (counts (0xFF ∷ bytes "if abc:\n") ≡ 1) × (counts (0x61 ∷ 0xE2 ∷ 0x82 ∷ []) ≡ 2) × (counts (0x61 ∷ 0x61 ∷ 0x61 ∷ 0x61 ∷ 0x61 ∷ 0x61 ∷ 0x61 ∷ 0x80 ∷ []) ≡ 8)
+unfolding counts
+bad-rounds = (refl, refl, refl)

@@ -1,10 +1,10 @@
 -- Well-formed UTF-8 (The Unicode Standard, chapter 3, table 3-7 "Well-Formed UTF-8 Byte Sequences"), and question 5 of 01: "UTF-8 by Unicode
--- table 3-7? No: 5, first byte of the bad sequence".
+-- table 3-7? No: 5, first byte of the bad sequence". Behind them the rounds of the check (02, change 2).
 -- Assumes nothing.
-use Prim.Native.Nat.{ℕ, zero, suc, _+_}
+use Prim.Native.Nat.{ℕ, zero, suc, _+_, _-_}
 use mathlib.Core.Bool.{Bool, true, false, cond, _&&_}
 use mathlib.Core.List.{List, [], _∷_}
-use lib.ListN.{length, drop}
+use lib.ListN.{length, drop, replicate}
 use Rattle.source.specs.Bytes.{between}
 use Rattle.utf8.specs.declared.Utf8.{Utf8}
 use Rattle.utf8.specs.declared.Utf8.the-variants.{WellFormed, IllFormed}
@@ -66,3 +66,26 @@ firstIllFormed (suc fuel) i l = step l (sequenceLength l) i (firstIllFormed fuel
 -- whether the whole list is well-formed UTF-8, or the first byte of its first ill-formed sequence
 unfoldable pub utf8Error : List ℕ → Utf8
 utf8Error s = firstIllFormed (length s) 0 s
+
+-- "each taking the next eight bytes if all are under 128": eight ranges from 0 to 127, which a list fits as it fits a row
+unfoldable pub eight : Row
+eight = replicate 8 (0x00, 0x7F)
+
+-- how many bytes a round takes at the front of the list: eight such, "else one sequence, good or bad"; a bad one has no length
+unfoldable pub taken : List ℕ → ℕ
+taken l = cond (fits eight l) 8 (sequenceLength l)
+
+-- "one added in each": behind a round that takes n bytes the rest's are counted; a bad sequence's round is the last
+abbrev pub oneMore : ℕ → ℕ → ℕ
+oneMore zero rest = 1
+oneMore (suc n) rest = suc rest
+
+-- the rounds over a list whose first k bytes belong to a round that is counted already
+unfoldable pub roundsPast : ℕ → List ℕ → ℕ
+roundsPast k [] = 0
+roundsPast (suc k) (b ∷ l) = roundsPast k l
+roundsPast zero (b ∷ l) = oneMore (taken (b ∷ l)) (roundsPast (taken (b ∷ l) - 1) l)
+
+-- the rounds over the whole list (for bytes under 128 alone: proofs/Plain.antt, `plain-rounds`)
+unfoldable pub rounds : List ℕ → ℕ
+rounds s = roundsPast 0 s

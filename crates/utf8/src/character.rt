@@ -20,7 +20,7 @@ pub fn decode(s: &[u8], i: usize) -> Character
     requires { ⌜ i < length (now s) ⌝ }
     ensures { λ r. ⌜ Decoded (now (s .entry)) i r ⌝ }
 {
-    let len = crate::sequence(s, i);
+    let len = crate::sequence::sequence(s, i);
     if len == 0 {
         return Character { code: 0, len };
     }

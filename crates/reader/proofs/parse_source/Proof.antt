@@ -72,8 +72,8 @@ returns-4 c =
 utf8-error-requires : tie.Need-utf8-error-requires
 utf8-error-requires c κs = search needs
 
-enum-known-place : tie.Need-enum-known-place
-enum-known-place c = search needs
+enum-known-found : tie.Need-enum-known-found
+enum-known-found c = search needs
 
 no-requires-5 : tie.Need-no-requires-5
 no-requires-5 c κs = search needs
@@ -123,15 +123,15 @@ read-areas-requires c κs =
 
 returns-5 : tie.Need-returns-5
 returns-5 c =
-    let at-place = c .before .before in
-    let at-utf8-error = at-place .before .before in
+    let at-found = c .before .before in
+    let at-utf8-error = at-found .before .before in
     let at-if4 = at-utf8-error .before in
     let at-if3 = at-if4 .before in
     let at-if2 = at-if3 .before in
     let at-if1 = at-if2 .before in
     let at-start = at-if1 .before .before .before .before .before in
     let a = at-start .args in
-    no5 (now (a .src)) (now (a .tokens)) (now (a .text)) (now (a .tree)) (c .no5 .result) (at-if1 .if1 .left) (at-if2 .if2 .left) (at-if3 .if3 .left) (at-if4 .if4 .left) (at-utf8-error .utf8-error .ensures) (at-place .place .given .1) (c .no5 .ensures)
+    no5 (now (a .src)) (now (a .tokens)) (now (a .text)) (now (a .tree)) (c .no5 .result) (at-if1 .if1 .left) (at-if2 .if2 .left) (at-if3 .if3 .left) (at-if4 .if4 .left) (at-utf8-error .utf8-error .ensures .0) (at-found .found .given .1) (c .no5 .ensures)
 
 same-length : tie.Need-same-length
 same-length c = search needs
@@ -154,7 +154,7 @@ returns-6 c =
     let at-start = at-if1 .before .before .before .before .before in
     let a = at-start .args in
     let w = at-read-areas .read-areas in
-    worked (now (a .src)) (now (a .tokens)) (now (a .text)) (now (a .tree)) (w .result) (at-if1 .if1 .left) (at-if2 .if2 .left) (at-if3 .if3 .left) (at-if4 .if4 .left) (at-utf8-error .utf8-error .ensures) (at-enum-told .enum-told .given .1) (w .last .1 .0) (w .last .1 .1 .0) (w .last .1 .1 .1 .0) (w .ensures)
+    worked (now (a .src)) (now (a .tokens)) (now (a .text)) (now (a .tree)) (w .result) (at-if1 .if1 .left) (at-if2 .if2 .left) (at-if3 .if3 .left) (at-if4 .if4 .left) (at-utf8-error .utf8-error .ensures .0) (at-enum-told .enum-told .given .1) (w .last .1 .0) (w .last .1 .1 .0) (w .last .1 .1 .1 .0) (w .ensures)
 
 pub parse-source-spec : {M : Type 1} → statement M
 parse-source-spec =
@@ -173,7 +173,7 @@ parse-source-spec =
     no-requires-4
     returns-4
     utf8-error-requires
-    enum-known-place
+    enum-known-found
     no-requires-5
     enum-told
     slice-relend-prefix-read-areas
