@@ -1,6 +1,6 @@
 #!/bin/sh
 # Builds the static library, the program, and the examples in C and Rust; runs all on the scripts of examples/ and on small ones. The examples' listings must
-# be the program's output, and the two walks the same, byte for byte.
+# be the program's output, and the two walks and the two checks of UTF-8 the same, byte for byte; where the program refuses by 5, the checks do, at its place.
 #
 #     examples/run.sh
 #
@@ -12,9 +12,11 @@ rt check tarbucket >/dev/null
 work=target/examples
 rm -rf "$work"
 mkdir -p "$work"
-"${CC:-cc}" -std=c99 -Wall -Wextra -pedantic -O2 -Iinclude examples/c/walk.c target/staticlib/libffi.a -o "$work/walk_c"
-cargo build --quiet --offline --release --manifest-path bindings/rust/Cargo.toml --example walk --target-dir target/cargo
-cp target/cargo/release/examples/walk "$work/walk_rust"
+cargo build --quiet --offline --release --manifest-path bindings/rust/Cargo.toml --examples --target-dir target/cargo
+for example in walk check; do
+    "${CC:-cc}" -std=c99 -Wall -Wextra -pedantic -O2 -Iinclude "examples/c/$example.c" target/staticlib/libffi.a -o "$work/${example}_c"
+    cp "target/cargo/release/examples/$example" "$work/${example}_rust"
+done
 
 mkdir "$work/scripts"
 scripts=$work/scripts
@@ -41,6 +43,7 @@ printf 'a\342\202\254' >"$scripts/euro"
 printf '\302\267' >"$scripts/middle_dot"
 printf 'e\314\201 = \303\251, \360\220\220\267\n' >"$scripts/composed"
 printf '\377' >"$scripts/bytes"
+printf 'aaaaaaaa = \355\240\200' >"$scripts/surrogate"
 printf 'x = {"a": 1.5, "b\\n": t{1, 2}, 3: lambda a, b: -a * b}; y.z(1)[0], None\n' >"$scripts/values"
 awk 'BEGIN { for (i = 0; i < 64; i++) printf "("; printf "a"; for (i = 0; i < 64; i++) printf ")" }' >"$scripts/deep"
 awk 'BEGIN { for (i = 0; i < 62; i++) printf "a<("; printf "a"; for (i = 0; i < 62; i++) printf ")<a" }' >"$scripts/shared"
@@ -54,9 +57,16 @@ for script in "$scripts"/*; do
     for language in c rust; do
         "$work/walk_$language" --list "$script" >"$work/$name.list_$language"
         "$work/walk_$language" <"$script" >"$work/$name.walk_$language"
+        "$work/check_$language" <"$script" >"$work/$name.check_$language"
         cmp "$work/$name.program" "$work/$name.list_$language"
     done
     cmp "$work/$name.walk_c" "$work/$name.walk_rust"
+    cmp "$work/$name.check_c" "$work/$name.check_rust"
+    read -r number place rounds <"$work/$name.check_c"
+    case "$number $(cat "$work/$name.program")" in
+    "5 no 5 $place" | "0 "[!n]* | "0 no "[!5]*) ;;
+    *) echo "$name: the check says $number $place $rounds" >&2 && exit 1 ;;
+    esac
     count=$((count + 1))
 done
 head -n 12 "$work/kiosk.pyh.walk_c"

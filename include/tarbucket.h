@@ -1,11 +1,12 @@
 /* Tarbucket: a verified reader of kiosk scripts, for C and C++.
  *
- * One function reads a script. It has no state, allocates nothing, and uses only the memory that is lent to it; it ends on every input of bytes.
+ * One function reads a script, and another tells whether a text is UTF-8. They have no state, allocate nothing, and use only the memory that is lent to
+ * them; they end on every input of bytes.
  *
  *     rt staticlib ffi                          (writes target/staticlib/libffi.a, for x86-64 Linux)
  *     cc -Iinclude walk.c target/staticlib/libffi.a -o walk
  *
- * n is the length of the source in bytes, a word is 32 bits. "None" is TARBUCKET_NONE where a node number is held.
+ * n is the length of the source in bytes, a word is 32 bits unless 64 are said. "None" is TARBUCKET_NONE where a node number is held.
  */
 #ifndef TARBUCKET_H
 #define TARBUCKET_H
@@ -26,7 +27,7 @@ extern "C" {
 /* No node, where a field holds a node number. */
 #define TARBUCKET_NONE 4294967295u
 
-/* Returned where `answer` has fewer than six words. */
+/* Returned where `answer` has too few words: fewer than six, or than two where UTF-8 alone is checked. */
 #define TARBUCKET_NO_ANSWER 4294967295u
 
 /* The areas of a source of n bytes. A slice may be longer: the words behind its area are never touched. */
@@ -237,6 +238,23 @@ enum {
 uint32_t tarbucket_parse_source(const uint8_t *src, size_t src_len, uint32_t *tokens, size_t tokens_len,
                                 uint8_t *text, size_t text_len, uint32_t *tree, size_t tree_len,
                                 uint32_t *answer, size_t answer_len);
+
+/* The words, of 64 bits, of the answer of tarbucket_utf8_error. */
+enum {
+    TARBUCKET_UTF8_PLACE = 0,  /* the first byte of the bad sequence; 0 where the text is UTF-8 */
+    TARBUCKET_UTF8_ROUNDS = 1, /* the rounds of the check, see below */
+    TARBUCKET_UTF8_WORDS = 2
+};
+
+/* Tells whether a text of any length is UTF-8. Writes the two words of the answer and returns TARBUCKET_ACCEPTED or TARBUCKET_NOT_UTF8. This is the check
+ * by which a source is refused by 5, with the same promise: table 3-7 of the Unicode Standard.
+ *
+ * The check goes in rounds, from the first byte on: a round takes the next eight bytes if so many are left and all are under 128, else one sequence,
+ * good or bad. A bad one ends the check, and its round is counted. So n bytes under 128 are n / 8 rounds, rounded down, and one for each byte left; an
+ * empty text is none. The number of rounds is proved to be this one, in a refusal as well.
+ * No pointer may be null, also where its length is 0; the two must not overlap. Words of `answer` behind the second are as they were. Where `answer_len` is
+ * below 2, nothing is written and TARBUCKET_NO_ANSWER is returned. */
+uint32_t tarbucket_utf8_error(const uint8_t *src, size_t src_len, uint64_t *answer, size_t answer_len);
 
 #ifdef __cplusplus
 }

@@ -18,17 +18,19 @@
 //! ```
 //!
 //! The reader is one function without state, [`parse_source`], over slices that the caller lends. [`Reader`] owns such slices and grows them as a source
-//! asks; [`Tree`] is a checked view of what they hold.
+//! asks; [`Tree`] is a checked view of what they hold. [`utf8_error`] is its check of UTF-8 alone.
 
 mod error;
 mod kind;
 mod shape;
 mod tree;
+mod utf8;
 
 pub use error::Error;
 pub use kind::{BinaryOp, Kind, UnaryOp};
 pub use shape::Shape;
 pub use tree::{BadTree, List, Node, Tree, Walk};
+pub use utf8::{utf8_error, Utf8};
 
 /// The longest source that is read, in bytes.
 pub const LONGEST: usize = 65536;
@@ -67,6 +69,7 @@ extern "C" {
         answer: *mut u32,
         answer_len: usize,
     ) -> u32;
+    fn tarbucket_utf8_error(src: *const u8, src_len: usize, answer: *mut u64, answer_len: usize) -> u32;
 }
 
 /// What the reader counted of an accepted source.

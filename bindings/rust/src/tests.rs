@@ -161,3 +161,63 @@ fn words_that_are_no_tree() {
         words[i] = kept;
     }
 }
+
+/// The rounds of n bytes under 128.
+fn plain(n: usize) -> usize {
+    n / 8 + n % 8
+}
+
+#[test]
+fn rounds_of_plain_text() {
+    let rounds = [0, 1, 2, 3, 4, 5, 6, 7, 1, 2, 3, 4, 5, 6, 7, 8, 2, 3];
+    for (n, rounds) in rounds.into_iter().enumerate() {
+        for byte in [0, b'a', 0x7f] {
+            assert_eq!(utf8_error(&vec![byte; n]), Utf8 { place: None, rounds }, "{n} times {byte}");
+        }
+    }
+    // longer than any source that is read
+    assert_eq!(utf8_error(&[b'a'; 2 * LONGEST + 7]), Utf8 { place: None, rounds: 16384 + 7 });
+}
+
+#[test]
+fn rounds_of_other_text() {
+    for before in 0..18 {
+        for behind in 0..18 {
+            let (front, back) = ("a".repeat(before), "a".repeat(behind));
+            for character in ["\u{80}", "é", "홀", "\u{ffff}", "𐐷", "\u{10ffff}"] {
+                let text = format!("{front}{character}{back}");
+                assert_eq!(utf8_error(text.as_bytes()), Utf8 { place: None, rounds: plain(before) + 1 + plain(behind) }, "{text}");
+            }
+            // alone, cut, overlong, a surrogate, above U+10FFFF
+            for bad in [&b"\x80"[..], b"\xff", b"\xec\x82", b"\xc1\xbf", b"\xe0\x9f\xbf", b"\xf0\x8f\xbf\xbf", b"\xed\xa0\x80", b"\xf4\x90\x80\x80"] {
+                let text = [front.as_bytes(), bad, back.as_bytes()].concat();
+                assert_eq!(utf8_error(&text), Utf8 { place: Some(before), rounds: plain(before) + 1 }, "{text:x?}");
+            }
+        }
+    }
+}
+
+#[test]
+fn the_place_is_that_of_the_standard_library() {
+    // the two bytes stand inside a round of eight, and across its end
+    for at in [2, 7] {
+        for pair in 0..=u16::MAX {
+            let mut text = [b'a'; 17];
+            text[at..at + 2].copy_from_slice(&pair.to_be_bytes());
+            let place = std::str::from_utf8(&text).err().map(|e| e.valid_up_to());
+            assert_eq!(utf8_error(&text).place, place, "{pair:x} at {at}");
+        }
+    }
+}
+
+#[test]
+fn words_of_the_check() {
+    for (text, number, place, rounds) in [(&b"aaaaaaaaa"[..], 0, 0, 2), (b"aaaaaaaaa\xff", 5, 9, 3)] {
+        for len in 0..5 {
+            let mut answer = [7u64; 5];
+            let returned = unsafe { tarbucket_utf8_error(text.as_ptr(), text.len(), answer.as_mut_ptr(), len) };
+            let (number, due) = if len < 2 { (u32::MAX, [7; 5]) } else { (number, [place, rounds, 7, 7, 7]) };
+            assert_eq!((returned, answer), (number, due), "{len} words");
+        }
+    }
+}

@@ -1,5 +1,5 @@
-// The reader for C and Rust to call. A slice is a pointer and then a length there. Nothing asks such a caller what a contract requires, so the exported
-// function requires nothing: it tests.
+// The reader and its check of UTF-8 for C and Rust to call. A slice is a pointer and then a length there. Nothing asks such a caller what a contract
+// requires, so the exported functions require nothing: they test.
 ghost use mathlib.Core.Path.{_≡_};
 ghost use mathlib.Core.List.{_++_};
 ghost use Prim.Native.Nat.{_≤_};
@@ -8,10 +8,12 @@ ghost use Rattle.reader.specs.Answer.{numbersOf};
 ghost use Rattle.ffi.specs.Called.{words, Called, Small};
 use reader::Answer;
 
+pub mod check; // check.rt: whether a text is UTF-8, and in how many rounds that was found
+
 // The words of an answer: number, place, T, N, text bytes, openings.
 pub const ANSWER: usize = 6;
 
-// What is returned where the answer's slice has fewer.
+// What is returned where the answer's slice has too few words.
 pub const NO_ANSWER: u32 = 4294967295;
 
 fn put(
