@@ -7,15 +7,15 @@ out=$PWD/target/wrong
 build() {
     rustc --edition 2021 -O -A warnings -C metadata=wrong --crate-type rlib --crate-name plain "$out/src/lib.rs" -o "$out/libplain.rlib"
     rustc --edition 2021 -O -C panic=abort --crate-type staticlib --crate-name ffi --extern plain="$out/libplain.rlib" \
-        compare/wrong/library.rs -o "$out/libffi.a"
+        "$out/wrong/library.rs" -o "$out/libffi.a"
     STATICLIB=$out cargo build --offline --release --quiet --manifest-path compare/Cargo.toml --target-dir "$out/target"
 }
 
-# wrong WHAT FILE EDIT
+# wrong WHAT FILE EDIT: the file as seen from compare/src
 wrong() {
-    rm -rf "$out/src"
+    rm -rf "$out/src" "$out/wrong"
     mkdir -p "$out"
-    cp -r compare/src "$out/src"
+    cp -r compare/src compare/wrong "$out"
     sed "$3" "compare/src/$2" > "$out/src/$2"
     if cmp -s "compare/src/$2" "$out/src/$2"; then
         echo "$1: the edit changes nothing"
@@ -46,3 +46,12 @@ wrong "m below 2^53" literal.rs 's/m > 1 << 53/m >= 1 << 53/'
 wrong "the tree not zeroed" lib.rs 's/ tree.fill(0);//'
 wrong "areas zeroed by 5" lib.rs 's/if matches!(parsed, Err(Answer { number: 5, .. }))/if false/'
 wrong "a word written behind the tokens" lib.rs 's/ tokens.fill(0);/& unsafe { *tokens.as_mut_ptr().add(token_area) = 5; }/'
+wrong "a round that takes seven" utf8.rs 's/ \([/%]\) 8/ \1 7/g'
+wrong "a round of eight that looks at seven" utf8.rs \
+    's/^pub fn check(.*/& if src.len() > 7 \&\& src[..7].is_ascii() { let Checked { bad, rounds } = check(\&src[8..]); return Checked { bad: bad.map(|at| at + 8), rounds: rounds + 1 }; }/'
+wrong "the bytes left over in one round" utf8.rs 's/run.len() % 8/(run.len() % 8).min(1)/'
+wrong "a bad sequence not counted" utf8.rs 's/ + usize::from(bad.is_some())//'
+wrong "an answer of one word taken for two" ../wrong/library.rs 's/answer_len < 2/answer_len < 1/'
+wrong "a third word written" ../wrong/library.rs 's/from_raw_parts_mut(answer, 2).*/& *answer.add(2) = 5;/'
+wrong "a sequence cut at the end and made whole by the byte behind" ../wrong/library.rs \
+    's/= plain::utf8::check(.*/= { use plain::utf8::check; let more = from_raw_parts(src, src_len + 1); let whole = more[src_len] > 127 \&\& check(more).bad.is_none(); check(\&more[..src_len + usize::from(whole)]) };/'

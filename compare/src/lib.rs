@@ -3,7 +3,7 @@
 //!
 //! `parse` reads a script to a tree; `layout` puts the tree into words; `read` asks the questions 1 to 14, without 12 (gone by
 //! 02's change 1), and fills the three areas. The descent and the ordered trial are two readings of the same tokens with no
-//! code in common.
+//! code in common. `utf8` is the check that 02's change 2 asks for.
 
 pub mod classes;
 pub mod descent;
@@ -14,6 +14,7 @@ pub mod scan;
 pub mod token;
 pub mod tree;
 pub mod trial;
+pub mod utf8;
 pub mod words;
 
 use token::Token;

@@ -4,6 +4,7 @@ use crate::classes::{BEGIN, CONTINUE};
 use crate::name::{begins, continues, within};
 use crate::token::Kind;
 use crate::trial::{try_program, Verdict};
+use crate::utf8::{check, Checked};
 use crate::words::kind;
 use crate::{parse, print, scan, Answer};
 
@@ -135,5 +136,54 @@ fn classes() {
         assert!(continues(c) || !begins(c), "{c:?}");
         // The standard library has other classes, of a later Unicode: all that begin names are letters there, but for these.
         assert!(c.is_alphabetic() || !begins(c) || ['_', '\u{2118}', '\u{212e}'].contains(&c), "{c:?}");
+    }
+}
+
+/// 02's sentence of the rounds word by word, which `check` only counts.
+fn in_rounds(src: &[u8]) -> Checked {
+    let (mut at, mut rounds) = (0, 0);
+    while at < src.len() {
+        rounds += 1;
+        let rest = &src[at..];
+        let one = (1..=rest.len().min(4)).find(|&length| std::str::from_utf8(&rest[..length]).is_ok());
+        at += match (rest.get(..8), one) {
+            (Some(eight), _) if eight.iter().all(|&byte| byte < 128) => 8,
+            (_, Some(length)) => length,
+            (_, None) => return Checked { bad: Some(at), rounds },
+        };
+    }
+    Checked { bad: None, rounds }
+}
+
+#[test]
+fn rounds() {
+    let due = [0, 1, 2, 3, 4, 5, 6, 7, 1, 2, 3, 4, 5, 6, 7, 8, 2, 3];
+    for (n, rounds) in due.into_iter().enumerate() {
+        assert_eq!(check(&vec![127; n]), Checked { bad: None, rounds }, "{n} bytes");
+    }
+    for (src, bad, rounds) in [
+        ("\u{e9}".as_bytes(), None, 1),
+        ("1234567\u{e9}".as_bytes(), None, 8),
+        ("12345678\u{ac00}12345678".as_bytes(), None, 3),
+        ("\u{10400}1234567".as_bytes(), None, 8),
+        (b"\x80", Some(0), 1),
+        (b"12345678\xe2\x82", Some(8), 2),
+        (b"1234567\xc3(1234567", Some(7), 8),
+    ] {
+        assert_eq!(check(src), Checked { bad, rounds }, "{src:?}");
+    }
+}
+
+#[test]
+fn rounds_read_twice() {
+    for length in 0..=40 {
+        for at in 0..=length {
+            for wide in ["\u{80}", "\u{e9}", "\u{ac00}", "\u{10400}"].map(str::as_bytes) {
+                for middle in (0..=wide.len()).flat_map(|cut| [&wide[..cut], &wide[cut..]]) {
+                    let src = [&vec![b'a'; at], middle, &vec![0; length - at]].concat();
+                    assert_eq!(check(&src), in_rounds(&src), "{src:?}");
+                }
+            }
+        }
     }
 }

@@ -26,3 +26,20 @@ pub unsafe extern "C" fn tarbucket_parse_source(
     from_raw_parts_mut(answer, 6).copy_from_slice(&made.words());
     made.number
 }
+
+/// # Safety
+/// As above.
+#[no_mangle]
+pub unsafe extern "C" fn tarbucket_utf8_error(src: *const u8, src_len: usize, answer: *mut u64, answer_len: usize) -> u32 {
+    use std::slice::{from_raw_parts, from_raw_parts_mut};
+    if answer_len < 2 {
+        return 4294967295;
+    }
+    let plain::utf8::Checked { bad, rounds } = plain::utf8::check(from_raw_parts(src, src_len));
+    from_raw_parts_mut(answer, 2).copy_from_slice(&[bad.unwrap_or(0) as u64, rounds as u64]);
+    if bad.is_some() {
+        5
+    } else {
+        0
+    }
+}

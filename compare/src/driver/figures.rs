@@ -1,8 +1,8 @@
 //! What was compared, in numbers.
 
 use crate::generate::CLASSES;
-use crate::sides::{Tried, NEVER};
-use plain::Answer;
+use crate::sides::{Made, Tried, NEVER};
+use plain::utf8::Checked;
 
 #[derive(Clone, Copy, Default)]
 struct Row {
@@ -20,13 +20,51 @@ struct Row {
     spent: u64,
 }
 
+/// Texts on which the checks of UTF-8 were compared.
+#[derive(Default)]
+struct Checks {
+    texts: u64,
+    /// Those put to nothing else.
+    alone: u64,
+    rounds: u64,
+    bad: u64,
+    unanswered: u64,
+}
+
+impl Checks {
+    fn count(&mut self, checked: Option<Checked>) {
+        self.texts += 1;
+        match checked {
+            Some(Checked { bad, rounds }) => {
+                self.rounds += rounds as u64;
+                self.bad += u64::from(bad.is_some());
+            }
+            None => self.unanswered += 1,
+        }
+    }
+
+    fn print(&self) {
+        let Checks { texts, alone, rounds, bad, unanswered } = self;
+        println!("UTF-8 check beside the plain one: {texts} texts, {alone} of them put to nothing else; {rounds} rounds, {bad} not UTF-8");
+        println!("fewer than two words for the check's answer: {unanswered}");
+    }
+}
+
 #[derive(Default)]
 pub struct Figures {
     rows: [Row; CLASSES.len()],
+    checks: Checks,
 }
 
 impl Figures {
-    pub fn count(&mut self, class: usize, src: &[u8], answer: Option<Answer>, tried: Tried, named: bool) {
+    pub fn check_alone(&mut self, checked: Option<Checked>) {
+        self.checks.count(checked);
+        self.checks.alone += 1;
+    }
+
+    pub fn count(&mut self, class: usize, src: &[u8], made: Made, named: bool) {
+        let Made { answer, checked, tried } = made;
+        self.checks.count(checked);
         let row = &mut self.rows[class];
         row.inputs += 1;
         row.bytes += src.len() as u64;
@@ -88,6 +126,7 @@ impl Figures {
         }
         println!("fewer than six words for the answer: {}", total.unanswered);
         println!("ordered trial beside the descent: {} alike, {} set aside for going back too often", total.alike, total.spent);
+        self.checks.print();
         println!("{} inputs, {} bytes, {seconds:.0} seconds, differences: {differences}", total.inputs, total.bytes);
     }
 }

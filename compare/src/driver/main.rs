@@ -1,9 +1,11 @@
-//! Puts generated inputs to the plain reader and to the verified one, and compares all that they write.
+//! Puts generated inputs to the plain reader and to the verified one, and to the UTF-8 checks of both, and compares all that they
+//! write.
 //!
 //!     compare [--seconds N] [--count N] [--seed S]    a run; exit status 1 at the first difference
 //!     compare --stdin                                 one input, with what both sides make of it
 //!     compare --print                                 one input, as 01's program prints it, by the plain reader
 
+mod check;
 mod figures;
 mod generate;
 mod random;
@@ -11,8 +13,8 @@ mod shrink;
 mod sides;
 
 use figures::Figures;
-use generate::Generator;
-use sides::{Case, Sides};
+use generate::{runs, Generator};
+use sides::{Case, Difference, Sides};
 use std::io::Read;
 use std::process::ExitCode;
 use std::time::{Duration, Instant};
@@ -87,6 +89,27 @@ fn one(case: Case) -> ExitCode {
     ExitCode::from(u8::from(sides.compare(&case).is_err()))
 }
 
+/// Compares the check of UTF-8 on texts that are put to nothing else; the text of the first difference, and the difference.
+fn check_alone(sides: &mut Sides, figures: &mut Figures) -> Result<(), (Vec<u8>, Difference)> {
+    let mut each = |text: &[u8]| {
+        sides.checks.turn();
+        let checked = sides.checks.compare(text, check::WORDS).map_err(|difference| (text.to_vec(), difference))?;
+        figures.check_alone(checked);
+        Ok(())
+    };
+    runs::small(&mut each)?;
+    runs::placed(&mut each)
+}
+
+/// Shows a difference as it was found, and its case, made as small as may be.
+fn found(sides: &mut Sides, case: Case, difference: Difference, figures: &Figures, begun: Instant) -> ExitCode {
+    println!("found in {} bytes: {}", case.src.len(), difference.0);
+    let smallest = shrink::shrink(sides, case);
+    shrink::show(sides, &smallest);
+    figures.print(begun.elapsed().as_secs_f64(), 1);
+    ExitCode::FAILURE
+}
+
 /// Runs until the limits are over, or to the first difference.
 fn run(limits: &Limits) -> ExitCode {
     println!("seed {}", limits.seed);
@@ -94,9 +117,13 @@ fn run(limits: &Limits) -> ExitCode {
     let mut sides = Sides::new();
     let mut figures = Figures::default();
     let mut generator = Generator::new(limits.seed);
+    if let Err((text, difference)) = check_alone(&mut sides, &mut figures) {
+        return found(&mut sides, Case::of(text), difference, &figures, begun);
+    }
     let mut done = 0;
     while !limits.over(done, begun) {
         let (class, case) = generator.next();
+        sides.turn();
         let compared = sides.compare(&case).and_then(|made| {
             if done % 65_536 == 0 {
                 sides.all_alike()?;
@@ -104,21 +131,16 @@ fn run(limits: &Limits) -> ExitCode {
             Ok(made)
         });
         match compared {
-            Ok((answer, tried)) => {
-                let named = answer.is_some_and(|answer| sides.wide_name(&case.src, answer));
-                figures.count(class, &case.src, answer, tried, named);
+            Ok(made) => {
+                let named = made.answer.is_some_and(|answer| sides.wide_name(&case.src, answer));
+                figures.count(class, &case.src, made, named);
             }
-            Err(_) => {
-                let smallest = shrink::shrink(&mut sides, case);
-                shrink::show(&mut sides, &smallest);
-                figures.print(begun.elapsed().as_secs_f64(), 1);
-                return ExitCode::FAILURE;
-            }
+            Err(difference) => return found(&mut sides, case, difference, &figures, begun),
         }
         done += 1;
     }
-    if sides.all_alike().is_err() {
-        println!("difference: cells that no input could reach were written");
+    if let Err(difference) = sides.all_alike() {
+        println!("difference: cells that no input could reach were written: {}", difference.0);
         return ExitCode::FAILURE;
     }
     figures.print(begun.elapsed().as_secs_f64(), 0);

@@ -3,7 +3,7 @@
 use crate::sides::{Case, Sides};
 use plain::words::print_tree;
 
-/// Takes bytes away, then makes them simpler, while some difference stays.
+/// Takes bytes away, then makes them simpler, while some difference stays: all in the turn in which it was found.
 pub fn shrink(sides: &mut Sides, case: Case) -> Case {
     let mut smallest = case;
     loop {
@@ -83,8 +83,17 @@ pub fn show(sides: &mut Sides, case: &Case) {
             print!("{}", print_tree(&side.tree));
         }
     }
+    show_check(sides, case);
     match found {
         Ok(_) => println!("no difference"),
         Err(difference) => println!("difference: {}", difference.0),
+    }
+}
+
+/// Both sides of the check, which is not asked above where the readers differ; else it is asked the same again.
+fn show_check(sides: &mut Sides, case: &Case) {
+    _ = sides.checks.compare(&case.src, case.check_words());
+    for (name, [place, rounds, ..]) in [("plain", sides.checks.plain), ("library", sides.checks.library)] {
+        println!("{name}, the check alone with {} words: place {place}, rounds {rounds}", case.check_words());
     }
 }

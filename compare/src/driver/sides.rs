@@ -1,7 +1,9 @@
 //! One input put to both readers, and what they made of it.
 
+use crate::check::{Checks, WORDS};
 use plain::token::Kind;
 use plain::trial::{try_program, Verdict};
+use plain::utf8::Checked;
 use plain::{areas, Answer};
 use std::panic::{catch_unwind, AssertUnwindSafe};
 
@@ -21,8 +23,8 @@ extern "C" {
     ) -> u32;
 }
 
-/// What the library returns where `answer` has fewer than six words.
-const NO_ANSWER: u32 = 4294967295;
+/// What the library returns where `answer` has too few words.
+pub const NO_ANSWER: u32 = 4294967295;
 
 /// No source is answered by this number since 02's change 1.
 pub const NEVER: u32 = 12;
@@ -54,6 +56,11 @@ impl Case {
         let (tokens, text, tree) = areas(self.src.len());
         let moved = |area: usize, by: isize| area.saturating_add_signed(by);
         [moved(tokens, self.tokens), moved(text, self.text), moved(tree, self.tree)]
+    }
+
+    /// The length of the check's answer: as many words too long or too short as the reader's.
+    pub fn check_words(&self) -> usize {
+        (self.answer + WORDS).saturating_sub(6)
     }
 }
 
@@ -93,8 +100,16 @@ impl Buffers {
 /// Where the two part, in words.
 pub struct Difference(pub String);
 
-fn differ<T>(what: impl Into<String>) -> Result<T, Difference> {
+pub fn differ<T>(what: impl Into<String>) -> Result<T, Difference> {
     Err(Difference(what.into()))
+}
+
+/// What came of a case on which all were alike.
+pub struct Made {
+    /// None where fewer than six words must be refused.
+    pub answer: Option<Answer>,
+    pub checked: Option<Checked>,
+    pub tried: Tried,
 }
 
 /// How the ordered trial was compared with the descent.
@@ -110,17 +125,23 @@ pub enum Tried {
 pub struct Sides {
     pub plain: Buffers,
     pub library: Buffers,
+    pub checks: Checks,
     dirt: u32,
 }
 
 impl Sides {
     pub fn new() -> Sides {
-        Sides { plain: Buffers::new(), library: Buffers::new(), dirt: 1 }
+        Sides { plain: Buffers::new(), library: Buffers::new(), checks: Checks::new(), dirt: 1 }
     }
 
-    /// Puts a case to both readers and to the trial. Slices hold dirt before, and cells behind them are compared too.
-    pub fn compare(&mut self, case: &Case) -> Result<(Option<Answer>, Tried), Difference> {
+    /// From now on the slices hold other dirt before. Until then, who compares a case again sees the same.
+    pub fn turn(&mut self) {
         self.dirt = self.dirt.wrapping_mul(1_664_525).wrapping_add(1_013_904_223);
+        self.checks.turn();
+    }
+
+    /// Puts a case to both readers, to the trial and to both checks. Slices hold dirt before, and cells behind them are compared too.
+    pub fn compare(&mut self, case: &Case) -> Result<Made, Difference> {
         let lengths = case.lengths();
         let (tokens, text, tree) = areas(case.src.len());
         let reach = [lengths[0].max(tokens) + MARGIN, lengths[1].max(text) + MARGIN, lengths[2].max(tree) + MARGIN];
@@ -137,7 +158,8 @@ impl Sides {
         }
         self.alike(reach)?;
         let tried = answer.map_or(Ok(Tried::SetAside), |answer| self.try_too(&case.src, answer))?;
-        Ok((answer, tried))
+        let checked = self.checks.compare(&case.src, case.check_words())?;
+        Ok(Made { answer, checked, tried })
     }
 
     /// The plain reader's turn; with fewer than six words for the answer nothing is written.
@@ -227,7 +249,7 @@ impl Sides {
     }
 }
 
-fn same<T: Copy + PartialEq + std::fmt::Display>(what: &str, plain: &[T], library: &[T]) -> Result<(), Difference> {
+pub fn same<T: Copy + PartialEq + std::fmt::Display>(what: &str, plain: &[T], library: &[T]) -> Result<(), Difference> {
     if plain == library {
         return Ok(());
     }

@@ -4,6 +4,7 @@ mod damage;
 mod deep;
 mod expression;
 mod limits;
+pub mod runs;
 mod script;
 mod soup;
 mod wide;
@@ -22,12 +23,13 @@ fn enumerated(_: &mut Random) -> Vec<u8> {
     unreachable!("its weight is 0")
 }
 
-pub const CLASSES: [Class; 13] = [
+pub const CLASSES: [Class; 14] = [
     Class { name: "bytes to 3", weight: 0, make: enumerated },
     Class { name: "pieces to 4", weight: 0, make: enumerated },
     Class { name: "letters to 3", weight: 0, make: enumerated },
     Class { name: "characters", weight: 0, make: enumerated },
     Class { name: "bytes", weight: 2000, make: soup::bytes },
+    Class { name: "runs", weight: 2000, make: runs::runs },
     Class { name: "soups", weight: 4000, make: soup::tokens },
     Class { name: "lines", weight: 2000, make: soup::lines },
     Class { name: "literals", weight: 1500, make: soup::literals },

@@ -41,7 +41,7 @@ pub fn bytes(random: &mut Random) -> Vec<u8> {
 }
 
 /// A sequence of two to four bytes at the borders of Unicode's table 3-7, sometimes cut off or wrong.
-fn utf8(random: &mut Random) -> Vec<u8> {
+pub fn utf8(random: &mut Random) -> Vec<u8> {
     const LEADS: &[u8] = b"\xc0\xc1\xc2\xdf\xe0\xe1\xec\xed\xee\xef\xf0\xf1\xf3\xf4\xf5\xff";
     const TAILS: &[u8] = b"\x7f\x80\x8f\x90\x9f\xa0\xbf\xc0";
     let lead = random.byte_of(LEADS);
