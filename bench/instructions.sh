@@ -1,6 +1,7 @@
 #!/bin/sh
-# Counts instructions under valgrind, which no load changes: the mean of one source for each reader and bound, and what zeroing has of it. Wants
-# bench/run.sh to have been run. `bench/instructions.sh profile` prints the reader's functions instead.
+# Counts instructions under valgrind, which no load changes: the mean of one source for each reader and bound, and what zeroing has of it; then the mean
+# of one text for each UTF-8 check. Wants bench/run.sh to have been run. `bench/instructions.sh utf8` prints the checks alone,
+# `bench/instructions.sh profile` the reader's functions.
 set -eu
 cd "$(dirname "$0")/.."
 bench=target/bench/release/bench
@@ -10,15 +11,32 @@ mkdir -p "$out"
 # The instructions of a side's one pass over a set.
 count() {
     valgrind --tool=callgrind --callgrind-out-file="$out/$1.$2" --toggle-collect='pass_*' "$bench" --pass "$1" "$2" 1 >/dev/null 2>"$out/log"
-    sed -n 's/^totals: //p' "$out/$1.$2"
+    sed -n 's/^totals: //p' "$out/$1.$2" | grep .
 }
 
 # The instructions of a Python process that makes so many passes over a set.
 python_count() {
     valgrind --tool=callgrind --callgrind-out-file="$out/python" "$python" bench/cpython.py "$out/sources/$1" "$2" >/dev/null 2>"$out/log"
-    sed -n 's/^totals: //p' "$out/python"
+    sed -n 's/^totals: //p' "$out/python" | grep .
 }
 
+# The table of the UTF-8 check alone: a row for each text, instructions per text and per byte of each side.
+checks() {
+    echo "| UTF-8 check | check, static library | per byte | plain Rust, one loop of rounds | per byte | std::str::from_utf8, no rounds | per byte |"
+    echo "|---|---|---|---|---|---|---|"
+    "$bench" --texts >"$out/texts"
+    while read -r set texts bytes; do
+        # not in the pipe, where a count that failed would not end the script
+        counts=$(for side in 0 1 2; do count $side "$set"; done)
+        echo "$counts" | awk -v row="| $set |" -v texts="$texts" -v bytes="$bytes" \
+            '{ row = row sprintf(" %d | %.2f |", $1 / texts, $1 / bytes) } END { print row }'
+    done <"$out/texts"
+}
+
+if [ "${1-}" = utf8 ]; then
+    checks
+    exit
+fi
 if [ "${1-}" = profile ]; then
     count 0 scripts >/dev/null
     exec callgrind_annotate "$out/0.scripts"
@@ -32,7 +50,8 @@ for set in scripts 1000 65536 korean; do
     cp -r "$folder" "$out/sources/$set/"
     bytes=$(cat "$folder"/*.py | wc -c)
     sources=$(ls "$folder" | wc -l)
-    row() { echo "| $set | $1 | $(($2 / sources)) | $(($2 * 10 / bytes)) |" | sed 's/\([0-9]\) |$/.\1 |/'; }
+    # where the count failed, so does the division
+    row() { tenths=$(($2 * 10 / bytes)) && echo "| $set | $1 | $(($2 / sources)) | $((tenths / 10)).$((tenths % 10)) |"; }
     # The row of a side that zeroes the areas, and the row of memset's part.
     zeroing_rows() {
         row "$2" "$(count "$1" $set)"
@@ -49,3 +68,4 @@ for set in scripts 1000 65536 korean; do
     row "plain Rust, and areas filled" "$(count 5 $set)"
     row "CPython, ast only" "$(($(python_count $set 2) - $(python_count $set 1)))"
 done
+checks

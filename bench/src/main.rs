@@ -1,14 +1,17 @@
-//! Times the verified reader beside lower bounds in C, a plain reader in Rust and CPython's parser, over the same sources.
+//! Times the verified reader beside lower bounds in C, a plain reader in Rust and CPython's parser, over the same sources; and its UTF-8 check alone.
 //!
 //! `bench FOLDER` writes the sources into FOLDER and prints the table; `bench --pass SIDE SET TIMES` makes passes of
-//! one side alone, for a profile; `bench --sources FOLDER` writes the sources alone; `bench --kiosks FOLDER` writes a
-//! folder of scripts for each kiosk.
+//! one side alone, for a profile; `bench --utf8` prints the UTF-8 check's table alone and `bench --texts` the names, numbers and bytes of its
+//! texts; `bench --sources FOLDER` writes the sources alone; `bench --kiosks FOLDER` writes a folder of scripts for each kiosk.
 
 mod clock;
+mod rounds;
 mod scripts;
 mod sides;
+mod texts;
+mod utf8;
 
-use sides::{Buffers, PLAIN, SIDES};
+use sides::{Buffers, Side, PLAIN, SIDES};
 use std::collections::BTreeSet;
 use std::path::Path;
 use std::process::Command;
@@ -18,6 +21,8 @@ struct Set {
     name: &'static str,
     /// Passes in the time that is left to a short run.
     passes: u32,
+    sides: &'static [Side],
+    clock: fn() -> i64,
     sources: Vec<Vec<u8>>,
 }
 
@@ -28,11 +33,12 @@ impl Set {
 }
 
 fn sets() -> [Set; 4] {
+    let set = |name, passes, sources| Set { name, passes, sides: &SIDES, clock: clock::thread, sources };
     [
-        Set { name: "scripts", passes: 150, sources: scripts::scripts() },
-        Set { name: "1000", passes: 300, sources: (0..64).map(|first| scripts::sized(1_000, first)).collect() },
-        Set { name: "65536", passes: 300, sources: vec![scripts::sized(65_536, 0)] },
-        Set { name: "korean", passes: 150, sources: scripts::korean() },
+        set("scripts", 150, scripts::scripts()),
+        set("1000", 300, (0..64).map(|first| scripts::sized(1_000, first)).collect()),
+        set("65536", 300, vec![scripts::sized(65_536, 0)]),
+        set("korean", 150, scripts::korean()),
     ]
 }
 
@@ -43,28 +49,29 @@ fn main() {
         ["--pass", side, set, times] => one_side(side, set, times),
         ["--sources", folder] => write_sources(Path::new(folder), &sets()),
         ["--kiosks", folder] => write_kiosks(Path::new(folder)),
-        [folder] => table(Path::new(folder)),
-        _ => panic!("bench FOLDER, bench --sources FOLDER, bench --kiosks FOLDER, or bench --pass SIDE SET TIMES"),
+        ["--utf8"] => utf8::table(&texts::sets(), &mut Buffers::new()),
+        ["--texts"] => texts::sets().iter().for_each(|set| println!("{} {} {}", set.name, set.sources.len(), set.bytes())),
+        [folder] if !folder.starts_with("--") => table(Path::new(folder)),
+        _ => panic!("bench FOLDER, or --utf8, --texts, --sources FOLDER, --kiosks FOLDER, --pass SIDE SET TIMES"),
     }
 }
 
 /// Passes of a side, given by its number.
 fn one_side(side: &str, set: &str, times: &str) {
-    let (name, pass) = SIDES[side.parse::<usize>().expect("a side's number")];
     let times: u64 = times.parse().expect("a number of passes");
-    let sets = sets();
-    let set = sets.iter().find(|one| one.name == set).expect("a set's name");
+    let set = sets().into_iter().chain(texts::sets()).find(|one| one.name == set).expect("a set's name");
+    let (name, pass) = set.sides[side.parse::<usize>().expect("a side's number")];
     let mut buffers = Buffers::new();
-    let best = (0..times).map(|_| time(pass, set, &mut buffers)).min().unwrap_or(0);
+    let best = (0..times).map(|_| time(pass, &set, &mut buffers)).min().unwrap_or(0);
     let sources = set.sources.len();
-    println!("{name}: {times} passes over {sources} sources, the best {} ns per source", best / sources as i64);
+    println!("{name}: {times} passes over {sources} sources, the best {:.1} ns per source", best as f64 / sources as f64);
 }
 
 /// One pass, in ns.
 fn time(pass: fn(&[Vec<u8>], &mut Buffers), set: &Set, buffers: &mut Buffers) -> i64 {
-    let start = clock::now();
+    let start = (set.clock)();
     pass(&set.sources, buffers);
-    clock::now() - start
+    (set.clock)() - start
 }
 
 fn write_sources(folder: &Path, sets: &[Set]) {
@@ -105,6 +112,7 @@ fn table(folder: &Path) {
     let row = |set| Row { set, sides: times(set, &mut buffers[0]), python: of_set(set, &python) };
     let rows: Vec<Row> = sets.iter().map(row).collect();
     rows.iter().for_each(print_set);
+    utf8::table(&texts::sets(), &mut buffers[0]);
     print_goals(&rows);
 }
 
@@ -166,10 +174,10 @@ fn check_bounds(src: &[u8], tokens: usize, library: &Buffers, bound: &mut Buffer
 
 /// The best pass of each side, in ns; the sides take turns, so that load falls on all.
 fn times(set: &Set, buffers: &mut Buffers) -> Vec<f64> {
-    let mut best = vec![f64::INFINITY; SIDES.len()];
+    let mut best = vec![f64::INFINITY; set.sides.len()];
     for _ in 0..set.passes {
-        for (best, (_, pass)) in best.iter_mut().zip(SIDES) {
-            *best = best.min(time(pass, set, buffers) as f64);
+        for (best, (_, pass)) in best.iter_mut().zip(set.sides) {
+            *best = best.min(time(*pass, set, buffers) as f64);
         }
     }
     best

@@ -9,17 +9,23 @@ pub const KIOSKS: u64 = 340;
 const EACH: u64 = 60;
 
 /// A xorshift generator.
-struct Random(u64);
+pub struct Random(u64);
 
 impl Random {
-    fn below(&mut self, bound: u64) -> u64 {
+    pub fn new(number: u64) -> Random {
+        let mut random = Random(number.wrapping_mul(0x9e37_79b9_7f4a_7c15) | 1);
+        (0..8).for_each(|_| _ = random.below(2));
+        random
+    }
+
+    pub fn below(&mut self, bound: u64) -> u64 {
         self.0 ^= self.0 << 13;
         self.0 ^= self.0 >> 7;
         self.0 ^= self.0 << 17;
         (self.0.wrapping_mul(0x2545_f491_4f6c_dd1d) >> 32) % bound
     }
 
-    fn pick<'a>(&mut self, choices: &[&'a str]) -> &'a str {
+    pub fn pick<'a>(&mut self, choices: &[&'a str]) -> &'a str {
         choices[self.below(choices.len() as u64) as usize]
     }
 }
@@ -91,8 +97,7 @@ pub fn of_kiosk(kiosk: u64) -> Vec<Vec<u8>> {
 }
 
 fn script(number: u64) -> Vec<u8> {
-    let mut random = Random(number.wrapping_mul(0x9e37_79b9_7f4a_7c15) | 1);
-    (0..8).for_each(|_| _ = random.below(2));
+    let mut random = Random::new(number);
     let mut out = format!("# Kiosk {number}: how far it is to E.\n");
     graph(&mut random, &mut out);
     distance(&mut random, &mut out);
