@@ -15,10 +15,11 @@ verdict() {
     printf '%s: %s\n    it says: %s\n' "$word" "$2" "$3"
 }
 
-# library FRAME COUNT AFTER: the true one called below COUNT frames of FRAME bytes, and what is done after it
+# library FRAME COUNT AFTER: the true reader called below COUNT frames of FRAME bytes, and what is done after it, or after the true UTF-8 check
 library() {
     rm -f "$out/libffi.a"
-    objcopy --redefine-sym tarbucket_parse_source=true_parse_source target/staticlib/libffi.a "$out/libffi.a"
+    objcopy --redefine-sym tarbucket_parse_source=true_parse_source --redefine-sym tarbucket_utf8_error=true_utf8_error \
+        target/staticlib/libffi.a "$out/libffi.a"
     cc -O1 -Iinclude "-DFRAME=$1" "-DCOUNT=$2" "-DAFTER=$3" -Wno-unused-function -c stack/wrong/library.c -o "$out/wrong.o"
     ar r "$out/libffi.a" "$out/wrong.o"
     STATICLIB=$out cargo build --offline --release --quiet --manifest-path stack/Cargo.toml --target-dir "$out/target"
@@ -77,6 +78,7 @@ code middle 1 "$entry: 0: jmp    9 <big+0x7>: goes into the middle of a function
 code dead 1 "$entry: 1: mov    %rdi,%rax: nothing comes here"
 code past 1 "$entry: 0: call   14 <small>: runs past the function's end"
 code away 1 "elsewhere: not in the archive"
+code alone 1 "tarbucket_utf8_error: not in the archive"
 code twice 1 "a::b: there are two functions of this name"
 
 library 8 'pluses(src, src_len)' 0
@@ -86,6 +88,10 @@ library 200 'levels(src, src_len)' 0
 found "200 bytes more for each level" "bytes, promised are"
 library 8 0 1
 found "14 for 13" "answered 14 .*, which must be 13"
+library 8 0 3
+found "a UTF-8 check that takes 66,000 bytes" "UTF-8 check.*bytes, promised are"
+library 8 0 4
+found "a UTF-8 check whose place is one late" "UTF-8 check.*answered 5 65537, which must be 5 65536"
 
 # The Rust crate of a copy promises something else; its library is the true one.
 rm -rf "$out/copy"

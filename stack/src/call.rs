@@ -1,4 +1,4 @@
-//! One call of the library, all that it needs made ready before: the thread does nothing else.
+//! One call of the library, of the reader or of its UTF-8 check, all that it needs made ready before: the thread does nothing else.
 
 use std::arch::asm;
 use std::ffi::c_void;
@@ -18,6 +18,7 @@ extern "C" {
         answer: *mut u32,
         answer_len: usize,
     ) -> u32;
+    fn tarbucket_utf8_error(src: *const u8, src_len: usize, answer: *mut u64, answer_len: usize) -> u32;
 }
 
 /// The longest source that is read, in bytes.
@@ -35,7 +36,7 @@ pub struct Call {
 }
 
 impl Call {
-    /// The same memory serves one source after the other.
+    /// The same areas serve one source after the other.
     pub fn new() -> Call {
         let most = LONGEST + 1;
         let (tokens, text, tree) =
@@ -43,17 +44,23 @@ impl Call {
         Call { src: Vec::with_capacity(most), tokens, text, tree, answer: [7; 6], pointer: 0 }
     }
 
+    /// A source that is read.
     pub fn take(&mut self, src: &[u8]) {
-        self.src.clear();
-        self.src.extend(src);
+        self.take_text(src);
         self.tokens.resize(3 * (src.len() + 1), 7);
         self.text.resize(src.len(), 7);
         self.tree.resize(16 * src.len() + 16, 7);
+    }
+
+    /// A text that is only checked: it may be longer than any source, and no area is lent for it.
+    pub fn take_text(&mut self, text: &[u8]) {
+        self.src.clear();
+        self.src.extend(text);
         self.answer = [7; 6];
     }
 }
 
-/// What a thread starts with: a `Call`, which nobody else touches until the thread has ended.
+/// What a thread starts with to read the source: a `Call`, which nobody else touches until the thread has ended.
 pub unsafe extern "C" fn run(call: *mut c_void) -> *mut c_void {
     let call = &mut *(call as *mut Call);
     // By hand, so that the arguments on the stack are surely counted: a compiler may put them there before or behind where the pointer is read.
@@ -78,5 +85,26 @@ pub unsafe extern "C" fn run(call: *mut c_void) -> *mut c_void {
         out("r12") call.pointer,
         clobber_abi("C"),
     );
+    null_mut()
+}
+
+/// The same to check the text; number and place go to the answer.
+pub unsafe extern "C" fn run_check(call: *mut c_void) -> *mut c_void {
+    let call = &mut *(call as *mut Call);
+    // `asm!` takes a pointer to anything: the type must be said here.
+    let mut answer = [7u64; 2];
+    asm!(
+        "mov r12, rsp",
+        "call {check}",
+        check = sym tarbucket_utf8_error,
+        in("rdi") call.src.as_ptr(),
+        in("rsi") call.src.len(),
+        in("rdx") answer.as_mut_ptr(),
+        in("rcx") answer.len(),
+        lateout("eax") call.answer[0],
+        out("r12") call.pointer,
+        clobber_abi("C"),
+    );
+    call.answer[1] = answer[0] as u32;
     null_mut()
 }

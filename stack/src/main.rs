@@ -4,6 +4,7 @@
 //! that goes past the end of its stack ends that process and not this one. `stack --source N` prints source N.
 
 mod call;
+mod checked;
 mod deep;
 mod long;
 mod mixed;
@@ -16,8 +17,8 @@ mod shapes;
 mod source;
 mod table;
 
-use call::Call;
-use painted::{Stack, PAINTS};
+use call::{run, run_check, Call};
+use painted::{Stack, Start, PAINTS};
 use source::Source;
 use std::io::Write;
 use std::process::ExitCode;
@@ -38,24 +39,28 @@ fn main() -> ExitCode {
 fn measure() {
     let (stack, mut call) = (Stack::new(), Call::new());
     let mut out = std::io::stdout().lock();
-    source::each(&mut |source: Source| {
+    let mut one = |source: Source, take: fn(&mut Call, &[u8]), start: Start| {
         let (number, place) = source.answer;
         let Source { sort, name, levels, .. } = source;
         writeln!(out, "{sort}\t{name}\t{}\t{levels}\t{number} {place}", source.text.len()).expect("a line written");
         for paint in PAINTS {
-            call.take(&source.text);
-            let taken = stack.measure(paint, &mut call);
+            take(&mut call, &source.text);
+            let taken = stack.measure(paint, start, &mut call);
             writeln!(out, "{taken} {} {}", call.answer[0], call.answer[1]).expect("a line written");
         }
-    });
+    };
+    source::each(&mut |source| one(source, Call::take, run));
+    checked::each(&mut |source| one(source, Call::take_text, run_check));
 }
 
 fn print_source(wanted: usize) {
     let mut number = 0;
-    source::each(&mut |source: Source| {
+    let mut one = |source: Source| {
         number += 1;
         if number == wanted {
             std::io::stdout().write_all(&source.text).expect("a source written");
         }
-    });
+    };
+    source::each(&mut one);
+    checked::each(&mut one);
 }

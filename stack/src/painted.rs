@@ -1,6 +1,6 @@
 //! A thread whose stack is memory of our own, painted before it starts: what is not paint any more was used.
 
-use crate::call::{run, Call};
+use crate::call::Call;
 use std::ffi::c_void;
 use std::ptr::null_mut;
 
@@ -17,7 +17,7 @@ const GUARD: usize = 1024 * 1024;
 #[repr(C, align(8))]
 struct Attributes([u8; 56]);
 
-type Start = unsafe extern "C" fn(*mut c_void) -> *mut c_void;
+pub type Start = unsafe extern "C" fn(*mut c_void) -> *mut c_void;
 
 extern "C" {
     fn mmap(place: *mut c_void, length: usize, protection: i32, flags: i32, file: i32, offset: i64) -> *mut c_void;
@@ -54,12 +54,12 @@ impl Stack {
     }
 
     /// The bytes that the call takes: from the stack pointer before its arguments down to the lowest byte that is not paint any more.
-    pub fn measure(&self, paint: u8, call: &mut Call) -> usize {
+    pub fn measure(&self, paint: u8, start: Start, call: &mut Call) -> usize {
         let mut thread = 0;
         unsafe {
             self.low.write_bytes(paint, STACK);
             let argument = call as *mut Call as *mut c_void;
-            assert_eq!(pthread_create(&mut thread, &self.attributes, run, argument), 0, "a thread");
+            assert_eq!(pthread_create(&mut thread, &self.attributes, start, argument), 0, "a thread");
             assert_eq!(pthread_join(thread, null_mut()), 0);
         }
         call.pointer - self.lowest(paint)

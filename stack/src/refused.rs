@@ -47,7 +47,7 @@ pub fn each(visit: &mut dyn FnMut(Source)) {
 fn behind(what: &str, text: &str, visit: &mut dyn FnMut(Source)) {
     let deep = format!("{}a", "(".repeat(DEEPEST)).into_bytes();
     for (end, number, place) in ENDS.into_iter().chain([(&deep[..], 13, DEEPEST)]) {
-        let name = format!("{number} behind {what}");
+        let name = format!("{number} at {} behind {what}", shown(&end.escape_ascii().to_string()));
         let text = [text.as_bytes(), end].concat();
         let answer = (number, (text.len() - end.len() + place) as u32);
         visit(Source { sort: "refusals", name, text, answer, levels: 0 });

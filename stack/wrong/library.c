@@ -1,4 +1,4 @@
-/* Something wrong in front of the true library, whose function stack/wrong.sh has given another name. */
+/* Something wrong in front of the true library, whose functions stack/wrong.sh has given other names. */
 #include "tarbucket.h"
 
 #define PARAMETERS                                                                                                                                   \
@@ -7,6 +7,7 @@
 #define ARGUMENTS src, src_len, tokens, tokens_len, text, text_len, tree, tree_len, answer, answer_len
 
 uint32_t true_parse_source(PARAMETERS);
+uint32_t true_utf8_error(const uint8_t *src, size_t src_len, uint64_t *answer, size_t answer_len);
 
 /* A frame for each: what is written behind the call keeps the compiler from making a loop of it. */
 static uint32_t frames(size_t count, PARAMETERS) {
@@ -37,11 +38,18 @@ static size_t levels(const uint8_t *src, size_t src_len) {
 }
 
 /* A byte so far below, the same as one of the paints. */
-static void touch(void) { __asm__ volatile("movb $0xa5, -40000(%%rsp)" ::: "memory"); }
+#define TOUCH(BELOW) __asm__ volatile("movb $0xa5, -" #BELOW "(%%rsp)" ::: "memory")
 
 uint32_t tarbucket_parse_source(PARAMETERS) {
     uint32_t number = frames(COUNT, ARGUMENTS);
     if (AFTER == 1 && number == TARBUCKET_TOO_DEEP) answer[0] = number = TARBUCKET_MISFIT;
-    if (AFTER == 2) touch();
+    if (AFTER == 2) TOUCH(40000);
+    return number;
+}
+
+uint32_t tarbucket_utf8_error(const uint8_t *src, size_t src_len, uint64_t *answer, size_t answer_len) {
+    uint32_t number = true_utf8_error(src, src_len, answer, answer_len);
+    if (AFTER == 3) TOUCH(66000);
+    if (AFTER == 4 && number == TARBUCKET_NOT_UTF8) answer[TARBUCKET_UTF8_PLACE]++;
     return number;
 }
