@@ -54,7 +54,7 @@ mem-within x (y ∷ a) b w t =
     ⊎-elim (λ h. subst (λ (z : ℕ). T (mem z b)) (sym (eqb→eq x y h)) (and-l (mem y b) (within a b) w)) (mem-within x a b (and-r (mem y b) (within a b) w))
     (or-e (eqb x y) (mem x a) t)
 
-mem-apart : (x : ℕ) (a b : List ℕ) → T (apart a b) → T (mem x a) → T (mem x b) → ⊥
+pub mem-apart : (x : ℕ) (a b : List ℕ) → T (apart a b) → T (mem x a) → T (mem x b) → ⊥
 mem-apart x [] b w t u = t
 mem-apart x (y ∷ a) b w t u =
     ⊎-elim (λ h. not-e (mem y b) (and-l (not (mem y b)) (apart a b) w) (subst (λ (z : ℕ). T (mem z b)) (eqb→eq x y h) u))

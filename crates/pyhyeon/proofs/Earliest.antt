@@ -11,7 +11,7 @@ use Rattle.grammar.specs.Descent.{Answer, done, no, deep, stuck, descend}
 use Rattle.grammar.specs.Limits.{before}
 use Rattle.grammar.specs.Misfit as fit
 use Rattle.grammar.proofs.Ends.{at-no}
-use Rattle.grammar.proofs.Along.{Keeps, descend-along}
+use Rattle.grammar.proofs.Along.{Keeps, singly, descend-along}
 use Rattle.grammar.proofs.Limits as all
 use Rattle.grammar.proofs.Late.{one-misfit, at-misfit}
 use Rattle.token.specs.Code.{Eof}
@@ -35,12 +35,13 @@ module _ (source : List ℕ) (toks : List Token) where
   record Level (s s′ : St (machine source toks)) : Type 0 where
     sum : s′ .kept .at + length (s′ .rest) ≡ s .kept .at + length (s .rest)
 
-  level : Keeps (machine source toks) Level
+  level : Keeps (machine source toks) singly Level
   level = record {
     same = λ s. record { sum = refl };
     on = λ f g. record { sum = g .sum ∙ f .sum };
-    shifted = λ t l k. record { sum = omega arith };
-    acted = λ a s. record { sum = omega (arith, act-at source toks a (s .kept)) };
+    shifted = λ t _ l k. record { sum = omega arith };
+    acted = λ a _ s. record { sum = omega (arith, act-at source toks a (s .kept)) };
+    both = λ a none. absurd none;
   }
 
   -- the descent is refused at s

@@ -5,7 +5,7 @@ use mathlib.Core.List.{List, [], _∷_}
 use Prim.Native.Nat.{ℕ, zero, suc, _≤_, _<_}
 use native.Mathlib.Omega.{arith}
 use lib.ListN.{length, getD, set, drop, length-set, length-append}
-use Rattle.grammar.proofs.Along.{Keeps}
+use Rattle.grammar.proofs.Along.{Keeps, singly}
 use Rattle.tokens.specs.Token.{Token}
 use Rattle.ast.specs.Node.{Node}
 use Rattle.pyhyeon.specs.Machine.{Value, token, node, signs, growing, list, chain, Kept, number, count, last, one, both, whole, top, put, write}
@@ -159,5 +159,11 @@ module _ (source : List ℕ) (toks : List Token) where
   act-along class k = write-along 3 _ k
   act-along program k = write-along 1 _ k
 
-  pub keeps : Keeps (machine source toks) (λ s s′. Along (s .kept) (s′ .kept))
-  keeps = record { same = λ s. along-same (s .kept); on = along-on; shifted = λ t l k. record { grows = omega arith; held = λ h. h }; acted = λ a s. act-along a (s .kept) }
+  pub keeps : Keeps (machine source toks) singly (λ s s′. Along (s .kept) (s′ .kept))
+  keeps = record {
+    same = λ s. along-same (s .kept);
+    on = along-on;
+    shifted = λ t _ l k. record { grows = omega arith; held = λ h. h };
+    acted = λ a _ s. act-along a (s .kept);
+    both = λ a none. absurd none;
+  }
