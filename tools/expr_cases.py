@@ -12,6 +12,7 @@ import sys
 
 sys.dont_write_bytecode = True
 sys.path.insert(0, os.path.join(os.path.dirname(os.path.abspath(__file__)), "reference"))
+import float_cases  # noqa: E402
 import generate  # noqa: E402
 from descent import LIMIT, Descent  # noqa: E402
 from scan import Refusal, scan, utf8  # noqa: E402
@@ -120,6 +121,7 @@ def sources():
         yield from listed(block)
     yield from nested()
     yield from generated()
+    yield from float_cases.sources(float_cases.EXPRESSIONS)
 
 
 def is_utf8(source):

@@ -128,6 +128,7 @@ def lists():
     yield "expressions", with_marks(sources.expressions())
     yield "scanner", with_marks([*sources.scanner(), *sources.ill_formed(), *sources.order()])
     yield "names", with_marks(sources.names())
+    yield "floats", with_marks(sources.floats())
     yield "limits", with_marks([source for source, _ in [*sources.nested(), *sources.mixed()]]) + with_marks(sources.longest(), ["000", "999"]) + at_the_limits()
     yield "generated", with_marks([*sources.generated(140, 11), *sources.soups(60, 12)])
     yield "damaged", with_marks(sources.damaged(300, 13))
@@ -141,9 +142,11 @@ def at_the_limits():
 
 def hold_to_the_paper():
     """What document 01 says itself: number and place of its scripts, the empty script's counts, the tree of `a<b<c` word by word; and what was counted or
-    told by hand from the sentences of 01 and 02: openings and nodes written of 23 scripts, who is accepted, who is too deep, which script has which kind."""
+    told by hand from the sentences of 01 and 02: openings and nodes written of 23 scripts, who is accepted, who is too deep, which script has which kind,
+    span, r and s of each Float of the scripts of float_cases."""
     check_answers.scripts_of_01()
     check_answers.counted()
+    check_answers.floats()
     for source, number in [*sources.nested(), *sources.mixed()]:
         assert expected(source, "000")[0].number == number, source
     for number, (source, marks) in enumerate(SMALLEST_SLICES, 1):
@@ -161,11 +164,9 @@ def hold_to_the_paper():
         assert kind in expected(source, "000")[2], (kind, source)
 
 
-# The printed tree of 01 as words: the header, 8 records with none as 4294967295, and zeros up to the area's 112 words.
-CHAIN = runs([1, 8, 6, 0, 8, 7, 19, 6] + [
-    4294967295 if word == "-" else int(word) for word in """
-    23 0 1 - 0 1 0 0   23 2 3 - 2 3 0 0   25 0 3 - 9 0 1 0   23 4 5 - 4 5 0 0   25 2 5 - 9 1 3 0   25 0 5 - 13 2 4 0   12 0 5 - 5 0 0 0   1 0 6 - 6 0 0 0
-    """.split()] + [0] * 40)
+# The printed tree of 01, with 02's version, as words: the header, 8 records without their index and with none as 4294967295, and zeros up to the area's 112 words.
+HEADER, *RECORDS = map(str.split, check_answers.A_CHAIN.split("\n"))
+CHAIN = runs([4294967295 if word == "-" else int(word) for line in [HEADER, *(record[1:] for record in RECORDS)] for word in line] + [0] * 40)
 
 
 def main():

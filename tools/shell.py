@@ -4,8 +4,9 @@
     python3 tools/shell.py            proves and builds the program, and runs it; PROGRAM=FILE runs another in its place
     python3 tools/shell.py --wrong    does the same with stand-ins that read or write wrongly (tools/wrong_shell.c): each must be found
 
-Each case compares standard output, standard error and how the program ended, byte for byte, with the text of document 01 or with what the same script
-gives in one piece. A part is written once the one before it was taken out of the pipe. The exit status is 1 where a case fails.
+Each case compares standard output, standard error and how the program ended, byte for byte, with the text of document 01, with a listing that was written
+by hand from 01 and 02, or with what the same script gives in one piece. A part is written once the one before it was taken out of the pipe. The exit status
+is 1 where a case fails.
 """
 import fcntl
 import os
@@ -21,21 +22,18 @@ import time
 import tty
 
 ROOT = os.path.dirname(os.path.dirname(os.path.abspath(__file__)))
+sys.dont_write_bytecode = True
+sys.path.insert(0, os.path.join(ROOT, "tools", "reference"))
+import check_answers  # noqa: E402
+import float_cases  # noqa: E402
+
 BUILT = os.path.join(ROOT, "target", "bin", "tarbucket")
 LIMIT = 20
 
 CHAIN = b"a<b<c\n"
-CHAIN_LISTED = b"""1 8 6 0 8 7 19 6
-0 23 0 1 - 0 1 0 0
-1 23 2 3 - 2 3 0 0
-2 25 0 3 - 9 0 1 0
-3 23 4 5 - 4 5 0 0
-4 25 2 5 - 9 1 3 0
-5 25 0 5 - 13 2 4 0
-6 12 0 5 - 5 0 0 0
-7 1 0 6 - 6 0 0 0
-"""
-EMPTY_LISTED = b"1 1 0 0 8 0 1 0\n0 1 0 0 - - 0 0 0\n"
+CHAIN_LISTED = check_answers.A_CHAIN.encode() + b"\n"
+EMPTY_LISTED = b"2 1 0 0 8 0 1 0\n0 1 0 0 - - 0 0 0\n"
+VERSION = EMPTY_LISTED[:2]
 TOO_LONG = b"no 1 0\n"
 LONGEST = b"a;" * 511 + b"a"
 INPUT = b"tarbucket: standard input: "
@@ -185,9 +183,11 @@ def cases(program, work):
     yield "a chain, in one piece", one_piece(program, CHAIN), (0, CHAIN_LISTED, b"")
     yield "an empty input", one_piece(program, b""), (0, EMPTY_LISTED, b"")
     yield "an empty input, through a pipe", pieces(program, b"", 1), (0, EMPTY_LISTED, b"")
+    for script, lines in float_cases.PRINTED.items():
+        yield f"the Float of {script!r}", one_piece(program, script.encode()), (0, lines.encode() + b"\n", b"")
     for name, script in [("a chain", CHAIN), ("the kiosk's script", kiosk), ("1,023 bytes", LONGEST)]:
         status, out, err = one_piece(program, script)
-        yield f"{name}, a listing", (status, out[:2], err), (0, b"1 ", b"")
+        yield f"{name}, a listing", (status, out[:2], err), (0, VERSION, b"")
         for size in [1, 7, 512]:
             yield f"{name}, in pieces of {size}", pieces(program, script, size), (0, out, b"")
     listed = one_piece(program, LONGEST)[1]

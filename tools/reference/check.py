@@ -8,11 +8,11 @@ import random
 import time
 
 import generate
-from check_answers import counted, names, scripts_of_01, slices, utf8_places
+from check_answers import counted, floats, names, scripts_of_01, slices, utf8_places
 from descent import descent
 from read import with_deep_stack
 from scan import Code, Refusal, Token, scan
-from tree import NEXT, NODE_FIELDS, NONE
+from tree import END, NEXT, NODE_FIELDS, NONE, R, S, START, Kind
 from trial import Trial, trial
 from trial_expressions import Fail
 
@@ -31,6 +31,7 @@ def agree(tokens, shown):
     assert tree is None or tree == free.nodes, (shown, free.nodes, tree)
     if tree is not None:
         well_linked(tree, shown)
+        keeps_spellings(tokens, tree, shown)
     return done
 
 
@@ -46,6 +47,18 @@ def well_linked(tree, shown):
             assert record[NEXT] > number, shown
             named.add(record[NEXT])
     assert named == set(range(len(tree) - 1)), shown
+
+
+def keeps_spellings(tokens, tree, shown):
+    """Each Float token has one record, in their order, with its start and end in r and s and
+    within the node's span; the other literals have 0 there."""
+    kept = [record for record in tree if record[0] == Kind.Float]
+    assert [(record[R], record[S]) for record in kept] == [
+        (token.start, token.end) for token in tokens if token.code == Code.Float], shown
+    assert all(record[START] <= record[R] and record[S] <= record[END] for record in kept), shown
+    for record in tree:
+        if record[0] in (Kind.Bool, Kind.Int, Kind.String, Kind.None_):
+            assert (record[R], record[S]) == (0, 0), shown
 
 
 tally = {}
@@ -226,6 +239,7 @@ def main():
         ("slices", slices),
         ("UTF-8 places", utf8_places),
         ("names", names),
+        ("Floats", floats),
         ("short strings", short_strings),
         ("token lists", lambda: token_lists(4)),
         ("walks", walks),

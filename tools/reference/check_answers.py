@@ -1,15 +1,18 @@
-"""Checks of single answers: the scripts of document 01, the lent slices, UTF-8 places, names."""
+"""Checks of single answers: the scripts of document 01, the lent slices, UTF-8 places, names,
+Floats."""
 import ast
 import itertools
+import struct
 import sys
 
+import float_cases
 import generate
 import name_cases
 from characters import LATER, of_3_2
 from descent import descent
 from read import Answer, areas, program, read
 from scan import Code, Refusal, scan, utf8
-from tree import END, NONE, P, Q, R, START, Kind
+from tree import END, NONE, P, Q, R, S, START, Kind
 
 
 def answer(source):
@@ -42,7 +45,8 @@ def first_expression(records):
     return statement[P]
 
 
-A_CHAIN = """1 8 6 0 8 7 19 6
+# 01's listing, but its first number: "The header's version becomes 2." (02)
+A_CHAIN = """2 8 6 0 8 7 19 6
 0 23 0 1 - 0 1 0 0
 1 23 2 3 - 2 3 0 0
 2 25 0 3 - 9 0 1 0
@@ -81,7 +85,7 @@ def scripts_of_01():
     accepted(generate.nested("parentheses", 63), Kind.Variable)
     refused(generate.nested("parentheses", 64), 13, 64)
     assert program(b"a<b<c\n") == A_CHAIN.split("\n")
-    assert program(b"a" * 1023)[0].startswith("1 3 1 ")
+    assert program(b"a" * 1023)[0].startswith("2 3 1 ")
     assert program(b"a" * 1024) == ["no 1 0"]
     # "Likely slips"
     assert accepted(b"a = 1")[0][START:END + 1] == [0, 5]
@@ -230,3 +234,41 @@ def names():
                 assert one_name(text) == one_name_of_python(text), text
                 cases += 1
     return cases
+
+
+def floats_of_python(source):
+    """Start and end of each Float by CPython's own parser, or None where it refuses the source.
+    A carriage return would begin a line there, so it reads a space."""
+    try:
+        tree = ast.parse(source.replace(b"\r", b" "))
+    except SyntaxError:
+        return None
+    lines = [0, *itertools.accumulate(len(line) + 1 for line in source.split(b"\n"))]
+    places = []
+    for node in ast.walk(tree):
+        if isinstance(node, ast.Constant) and isinstance(node.value, float):
+            line = lines[node.lineno - 1]
+            places.append((line + node.col_offset, line + node.end_col_offset))
+    return sorted(places)
+
+
+def floats():
+    """Spans, r and s that were counted by hand, the value that Python has for the bytes from r
+    to s, and the places that CPython's parser gives where it reads the source too."""
+    read_by_python = 0
+    for text, expected in float_cases.BY_HAND:
+        source = text.encode()
+        found = [record for record in accepted(source) if record[0] == Kind.Float]
+        assert [(node[START], node[END], node[R], node[S]) for node in found] == expected, text[:99]
+        for node in found:
+            value = float(source[node[R]:node[S]])
+            assert struct.pack("<II", node[P], node[Q]) == struct.pack("<d", value), text[:99]
+        places = floats_of_python(source)
+        if places is not None:
+            assert [(node[R], node[S]) for node in found] == places, text[:99]
+            read_by_python += 1
+    # It has no literal for a target, no `t{..}` and no `not` behind a sign.
+    assert read_by_python >= 50
+    for text, lines in float_cases.PRINTED.items():
+        assert program(text.encode()) == lines.split("\n"), text
+    return len(float_cases.BY_HAND) + len(float_cases.PRINTED)

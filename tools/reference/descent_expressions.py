@@ -194,8 +194,8 @@ class ExpressionRules:
         start = self.here()
         token = self.take(self.next())
         if token.code in LITERALS:
-            kind, p, q = literal(token)
-            made = self.write_from(kind, start, p, q)
+            kind, *fields = literal(token)
+            made = self.write_from(kind, start, *fields)
         elif token.code == Code.LBracket:
             members = self.members(Code.RBracket, Chain(self.nodes))
             made = self.write_from(Kind.List, start, members)

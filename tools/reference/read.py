@@ -1,5 +1,5 @@
-"""The reader of document 01, with change 1 of document 02: the questions, the answer, the
-areas, the program.
+"""The reader of document 01, with changes 1 and 3 of document 02: the questions, the answer,
+the areas, the program.
 
 Run as a program it reads a script from standard input and prints its tree, or `no`,
 number and place.
@@ -10,7 +10,7 @@ from collections import namedtuple
 
 from descent import descent
 from scan import Refusal, scan, utf8
-from tree import show_record
+from tree import VERSION, show_record
 
 # "An answer holds number, place, T, N, text bytes, openings; acceptance has number 0
 # and place 0."
@@ -67,9 +67,9 @@ def fill(lent, words):
 
 def header(done, tokens, text, n):
     """"a header of counts and offsets (version 1, nodes N, T, text bytes, node offset 8,
-    root N - 1, rules opened, n)" """
+    root N - 1, rules opened, n)"; "The header's version becomes 2." (02) """
     nodes = len(done.nodes)
-    return [1, nodes, tokens, text, 8, nodes - 1, done.openings, n]
+    return [VERSION, nodes, tokens, text, 8, nodes - 1, done.openings, n]
 
 
 def program(source):

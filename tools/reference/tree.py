@@ -1,4 +1,5 @@
-"""The records of section "Tree" of document 01, shared by trial and descent.
+"""The records of section "Tree" of document 01, with change 3 of document 02, shared by
+trial and descent.
 
 Only names for numbers, and the words of a literal, stand here: which nodes are
 made, when and with what spans, each of the two says for itself.
@@ -7,6 +8,9 @@ import struct
 from types import SimpleNamespace
 
 from scan import Code
+
+# "The header's version becomes 2." (02)
+VERSION = 2
 
 # "none is 4294967295"
 NONE = 4294967295
@@ -50,7 +54,9 @@ def halves(bits):
 
 
 def literal(token):
-    """Kind, p and q of a literal's node."""
+    """Kind and fields of a literal's node, from p on. "A Float record carries in r and s the
+    start and end of its token, which differ from the node's span in parentheses or as an
+    Assign target." (02) Who widens a node's span leaves these as they are."""
     if token.code == Code.None_:
         return Kind.None_, 0, 0
     if token.code == Code.Bool:
@@ -58,7 +64,8 @@ def literal(token):
     if token.code == Code.Int:
         return (Kind.Int, *halves(token.value % 2**64))
     if token.code == Code.Float:
-        return (Kind.Float, *halves(struct.unpack("<Q", struct.pack("<d", token.value))[0]))
+        bits = struct.unpack("<Q", struct.pack("<d", token.value))[0]
+        return (Kind.Float, *halves(bits), token.start, token.end)
     return (Kind.String, *token.value)
 
 

@@ -1,5 +1,5 @@
 -- Literals as nodes (01, Tree, "18 Bool (p 1 for True, else 0), 19 Int and 21 Float (p low, q high half of the 64 bits), 20 String (p offset,
--- q length in the text), 22 None").
+-- q length in the text), 22 None"; 02, change 3, "A Float record carries in r and s the start and end of its token").
 -- Assumes nothing.
 use Prim.Native.Nat.{ℕ}
 use mathlib.Core.Bool.{cond}
@@ -12,21 +12,28 @@ use Rattle.ast.specs.declared.Leaf.{Leaf}
 use Rattle.ast.specs.Kind as kind
 use Rattle.ast.specs.Node.{Node, made}
 
+-- r and s are unused: "Unused words are 0" (01, Tree)
 abbrev pub leaf : ℕ → ℕ → ℕ → Leaf
-leaf kind p q = record { kind = kind; p = p; q = q }
+leaf kind p q = record { kind = kind; p = p; q = q; r = 0; s = 0 }
 
 -- "p low, q high half of the 64 bits"
 abbrev pub halved : ℕ → Halves → Leaf
 halved kind h = leaf kind (h .low) (h .high)
 
--- the kind of a literal, and its p and q
-abbrev pub leafOf : Literal → Leaf
-leafOf (L.Bool b) = leaf kind.Bool (cond b 1 0) 0
-leafOf (L.Int z) = halved kind.Int (halvesOf (twosComplement z))
-leafOf (L.String at len) = leaf kind.String at len
-leafOf (L.Float x) = halved kind.Float (halvesOf (toBits binary64 x))
-leafOf L.None = leaf kind.None 0 0
+-- the same of a Float, with "the start and end of its token" in r and s
+abbrev pub spelled : ℕ → ℕ → Halves → Leaf
+spelled start end h = record { kind = kind.Float; p = h .low; q = h .high; r = start; s = end }
 
--- the node of a literal that stands from start to end
+-- the kind and the fields of a literal whose token stands from start to end
+abbrev pub leafOf : ℕ → ℕ → Literal → Leaf
+leafOf start end (L.Bool b) = leaf kind.Bool (cond b 1 0) 0
+leafOf start end (L.Int z) = halved kind.Int (halvesOf (twosComplement z))
+leafOf start end (L.String at len) = leaf kind.String at len
+leafOf start end (L.Float x) = spelled start end (halvesOf (toBits binary64 x))
+leafOf start end L.None = leaf kind.None 0 0
+
+-- its node, when it is written: what widens the node's span later leaves r and s (Node.antt, `spanned`)
 abbrev pub literalNode : ℕ → ℕ → Literal → Node
-literalNode start end l = made (leafOf l .kind) start end (leafOf l .p) (leafOf l .q) 0 0
+literalNode start end l =
+    let f = leafOf start end l in
+    made (f .kind) start end (f .p) (f .q) (f .r) (f .s)

@@ -5,7 +5,6 @@ use mathlib.Core.Bool.{Bool, true, false, _&&_, _||_}
 use mathlib.Core.List.{List, [], _∷_}
 use lib.Dec.{eqb, ltb}
 use lib.ListN.{getD}
-use Rattle.ast.specs.Kind as kind
 
 -- "N records of 8 words: kind, start, end, next, p, q, r, s"
 pub record Node : Type 0 where
@@ -78,7 +77,7 @@ table =
     ∷ row word unused unused unused  -- 18 Bool
     ∷ row word word unused unused  -- 19 Int
     ∷ row word word unused unused  -- 20 String
-    ∷ row word word unused unused  -- 21 Float
+    ∷ row word word word word  -- 21 Float: "in r and s the start and end of its token" (02, change 3)
     ∷ row unused unused unused unused  -- 22 None
     ∷ row word word unused unused  -- 23 Variable
     ∷ row word node unused unused  -- 24 Unary

@@ -147,11 +147,13 @@ pub fn set_next(tree: &mut [u32], n: NodeNumber, next: NodeNumber)
 
 // ---- literals ----
 
-// The kind of a literal's node, and its p and q. Its r and s are 0.
+// The kind of a literal's node, and its four fields.
 pub struct Leaf {
     pub kind: u32,
     pub p: u32,
     pub q: u32,
+    pub r: u32,
+    pub s: u32,
 }
 
 fn leaf_with(kind: u32, p: u32, q: u32) -> Leaf
@@ -161,13 +163,16 @@ fn leaf_with(kind: u32, p: u32, q: u32) -> Leaf
         kind: kind,
         p: p,
         q: q,
+        r: 0,
+        s: 0,
     }
 }
 
-// The node of a literal. No token's Float is a NaN, which has more than one pattern of bits.
-pub fn leaf_of(l: Literal) -> Leaf
+// The node of a literal whose token stands from start to end: a Float keeps these two places (02, change 3). No token's Float is a NaN, which has more than
+// one pattern of bits.
+pub fn leaf_of(l: Literal, start: Place, end: Place) -> Leaf
     requires { ⌜ T (hasBits l) ⌝ }
-    ensures { λ r. ⌜ r ≡ leafOf l ⌝ }
+    ensures { λ r. ⌜ r ≡ leafOf (start .0) (end .0) l ⌝ }
 {
     match l {
         Literal::Bool(b) => leaf_with(BOOL, b as u32, 0),
@@ -178,7 +183,13 @@ pub fn leaf_of(l: Literal) -> Leaf
         Literal::String(at, len) => leaf_with(STRING, at, len),
         Literal::Float(x) => {
             let h = numbers::halves::of_f64(x);
-            leaf_with(FLOAT, h.low, h.high)
+            Leaf {
+                kind: FLOAT,
+                p: h.low,
+                q: h.high,
+                r: start.0,
+                s: end.0,
+            }
         }
         Literal::None => leaf_with(NONE, 0, 0),
     }

@@ -85,8 +85,9 @@ module _ {toks tr : List ℕ} {s : State} (here : Spot toks tr s) {tr′ : List 
     frame = frame-put w;
   }
 
-pub leaf-node : (x y : ℕ) {f : Leaf} {l m : Literal} → f ≡ leafOf l → l ≡ m → made (f .kind) x y (f .p) (f .q) 0 0 ≡ literalNode x y m
-leaf-node x y e d = ap (λ (f : Leaf). made (f .kind) x y (f .p) (f .q) 0 0) (e ∙ ap leafOf d)
+-- the node of the literal m, whose token stands from x to y, of the leaf that was made of them
+pub leaf-node : (x y : ℕ) {a b : ℕ} {f : Leaf} {l m : Literal} → f ≡ leafOf a b l → a ≡ x → b ≡ y → l ≡ m → made (f .kind) x y (f .p) (f .q) (f .r) (f .s) ≡ literalNode x y m
+leaf-node x y e starts ends d = ap (λ (f : Leaf). made (f .kind) x y (f .p) (f .q) (f .r) (f .s)) (e ∙ rw (starts, ends, d))
 
 -- the node of a literal, where its text is counted first
 pub literal-wrote : {src toks tr tr′ : List ℕ} {s : State} {a : Added} {u : ℕ} {n : Node} → Spot toks tr s → Put (record { at = s .at; nodes = s .nodes; opened = s .opened; used = u }) tr n a tr′

@@ -41,7 +41,7 @@ pub fn put_literal(src: &[u8], toks: &[u32], tree: &mut [u32], s: State) -> Adde
     let from = start_at(toks, TokenNumber(t));
     let to = end_at(toks, TokenNumber(t));
     let l = lexer::literal_of(src, code, from.0 as usize, to.0 as usize, used);
-    let leaf = ast::leaf_of(l);
+    let leaf = ast::leaf_of(l, from, to);
     let u = text_after(used, l);
     let after = State {
         at: at,
@@ -56,8 +56,8 @@ pub fn put_literal(src: &[u8], toks: &[u32], tree: &mut [u32], s: State) -> Adde
         TokenNumber(t),
         leaf.p,
         leaf.q,
-        0,
-        0,
+        leaf.r,
+        leaf.s,
         after,
     )
 }

@@ -1,7 +1,7 @@
 -- The scanner's promise is what the tree reader asks: the words of a token list stand for its tokens, and all that code may ask of words holds of them.
 -- Assumes nothing.
 use mathlib.Core.Path.{_≡_, refl, ap, sym, _∙_}
-use mathlib.Core.Bool.{Bool, true, false, cond}
+use mathlib.Core.Bool.{false}
 use mathlib.Core.List.{List, [], _∷_, _++_}
 use Prim.Native.Nat.{ℕ, zero, suc, _+_, _-_, _*_, _≤_, _<_}
 use native.Mathlib.Omega.{arith}
@@ -21,10 +21,11 @@ use Rattle.lexer.proofs.Properties.{Each, Each.none, Each.more, Spanned, EofLas
 use Rattle.lexer.proofs.Laws.{tokens-few, text-few, tokens-spanned, tokens-end, tokens-valued}
 use Rattle.ast.specs.Words.{tabulate}
 use Rattle.grammar.specs.Limits.{before}
-use Rattle.pyhyeon.specs.Symbol.{Tee, isTee, symbol, symbols}
+use Rattle.pyhyeon.specs.Symbol.{symbol, symbols}
 use Rattle.pyhyeon.specs.Reading.{Work, Misfit, descent}
 use Rattle.pyhyeon.specs.Earliest.{Earliest}
 use Rattle.pyhyeon.proofs.Earliest.{earliest}
+use Rattle.pyhyeon.proofs.Spans.{symbol-eof}
 use Rattle.lookahead.specs.Tokens.{codeAt, startAt, endAt, eofAt, textBefore, tokenOf, tokensOf, Span, Tokens}
 
 -- ---- reading words by number
@@ -89,13 +90,9 @@ module _ {src toks : List ℕ} where
       let z : i + suc k ≡ i + 1 + k = omega arith in
       rw z (span-along (i + 1) k e (onward f) (omega arith))
 
--- the tokens before Eof are no Eof for the rules either: Tee is another code
+-- the tokens before Eof are no Eof for the rules either
 symbol-other : (src : List ℕ) (t : Token) → (t .code ≡ Eof → ⊥) → eqb (symbol src t) Eof ≡ false
-symbol-other src t h = go (isTee src t)
-  where
-    go : (b : Bool) → eqb (cond b Tee (t .code)) Eof ≡ false
-    go true = refl
-    go false = ne-eqb (t .code) Eof h
+symbol-other src t h = ne-eqb (symbol src t) Eof (λ e. h (symbol-eof src t e))
 
 before-last : (src : List ℕ) (n : ℕ) {ts : List Token} → Each (λ t. t .code ≡ Eof → ⊥) ts → before Eof (symbols src (ts ++ mark Eof n n ∷ [])) ≡ length ts
 unfolding symbols

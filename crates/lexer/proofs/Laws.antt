@@ -9,7 +9,9 @@ use mathlib.Core.Logic.{_⊎_, inl, inr}
 use Prim.Native.Nat.{ℕ, zero, suc, _+_, _-_, _≤_, zero-le}
 use native.Mathlib.Nat.{le-refl, le-trans}
 use native.Mathlib.Omega.{arith}
+use native.Mathlib.Decide.{ℕ-discrete}
 use lib.Dec.{eqb}
+use lib.Ieee.{Float}
 use lib.ListN.{length, getD, take, length-append}
 use lib.Seq.{take-nil, take-at, drop-at}
 use borrow.Author.Tests.{ne-eqb}
@@ -33,9 +35,9 @@ use Rattle.raw_token.proofs.Within.{token-within}
 use Rattle.raw_token.proofs.Laws.{token-code, string-quotes}
 use Rattle.lexer.specs.Value.{valueOf, textOf}
 use Rattle.lexer.specs.Scan.{scanned, mark, tokenList}
-use Rattle.lexer.proofs.Values.{length-part}
+use Rattle.lexer.proofs.Values.{length-part, value-float}
 use Rattle.lexer.proofs.Finding.{text-short}
-use Rattle.lexer.proofs.Properties.{Each, Each.none, Each.more, Pairs, Spanned, Before, EofLast, count, Balanced, Coded, Valued, Held, InText}
+use Rattle.lexer.proofs.Properties.{Each, Each.none, Each.more, Pairs, Spanned, Before, EofLast, count, Balanced, Coded, Valued, bytesOf, Held, InText, FloatCoded}
 use Rattle.lexer.proofs.Promise.{Tokens, indent, dedent, raw, eof, promise}
 
 -- ---- the laws of a derivation
@@ -197,6 +199,48 @@ strings-held {s} {used} before u (raw {start} {code} {end} {v} {ts} {bs} h k e f
     (strings-held (before ++ textOf code l) (omega (arith, length-append before (textOf code l))) t))
 strings-held {s} before u (eof h k) = more {t = mark Code.Eof (length s) (length s)} tt none
 
+-- a value that is a Float comes of Float's code, and is that of the bytes
+of-float : (code : ℕ) (l : List ℕ) (used : ℕ) (x : Float) → valueOf code l used ≡ Value (L.Float x) → (code ≡ Code.Float) × (decimalOf l ≡ D.Value x)
+unfolding valueOf lexInteger lexFloat lexString
+of-float code l used x = go (ℕ-discrete code Code.Float)
+  where
+    admitted : (d : Decimal) → ofDecimal d ≡ Value (L.Float x) → d ≡ D.Value x
+    admitted (D.Value y) e = cc
+    admitted D.NotAdmitted e = let z : _≡_ {A = ℕ} 0 1 = cc in absurd (omega arith)
+
+    another : (a b t : Bool) (i : Integer) (v w : Literal) → (v ≡ L.Float x → ⊥) → (w ≡ L.Float x → ⊥) → cond a (Value v) (cond b (ofInteger i) (cond t (Value w) (Value L.None))) ≡ Value (L.Float x) → ⊥
+    another true b t i v w nv nw e = nv cc
+    another false true t (I.Value n) v w nv nw e = let z : _≡_ {A = ℕ} 0 1 = cc in omega arith
+    another false true t I.OutOfRange v w nv nw e = let z : _≡_ {A = ℕ} 0 1 = cc in omega arith
+    another false false true i v w nv nw e = nw cc
+    another false false false i v w nv nw e = let z : _≡_ {A = ℕ} 0 1 = cc in omega arith
+
+    go : Dec (code ≡ Code.Float) → valueOf code l used ≡ Value (L.Float x) → (code ≡ Code.Float) × (decimalOf l ≡ D.Value x)
+    go (yes e) h = (e, admitted (decimalOf l) (sym (value-float code l used e) ∙ h))
+    go (no n) h =
+        absurd (another (eqb code Code.Bool) (eqb code Code.Int) (eqb code Code.String) (integerOf l) _ _
+        (λ e. let z : _≡_ {A = ℕ} 0 1 = cc in omega arith) (λ e. let z : _≡_ {A = ℕ} 0 1 = cc in omega arith)
+        (rw (ne-eqb code Code.Float n) at h))
+
+-- Float's code has a Float's value
+has-float : (code : ℕ) (l : List ℕ) (used : ℕ) (v : Literal) → code ≡ Code.Float → valueOf code l used ≡ Value v → (x : Float) × (v ≡ L.Float x)
+unfolding lexFloat
+has-float code l used v e h = go (decimalOf l) (sym (value-float code l used e) ∙ h)
+  where
+    go : (d : Decimal) → ofDecimal d ≡ Value v → (x : Float) × (v ≡ L.Float x)
+    go (D.Value x) k = (x, cc)
+    go D.NotAdmitted k = let z : _≡_ {A = ℕ} 0 1 = cc in absurd (omega arith)
+
+floats-coded : {s : List ℕ} {used : ℕ} {ts : List Token} {bs : List ℕ} → Valued s used ts bs → Each (FloatCoded s) ts
+floats-coded Valued.none = none
+floats-coded {s} (Valued.more {used} {t} v h) =
+    more
+    (record {
+      of = λ x e. let f = of-float (t .code) (bytesOf s t) used x (v ∙ ap Value e) in record { code = f .0; value = f .1 };
+      has = λ e. has-float (t .code) (bytesOf s t) used (t .literal) e v;
+    })
+    (floats-coded h)
+
 -- ---- the laws of the token list
 
 module _ (s : List ℕ) (ts : List Token) (bs : List ℕ) (e : tokenList s ≡ scanned ts bs) where
@@ -227,6 +271,9 @@ module _ (s : List ℕ) (ts : List Token) (bs : List ℕ) (e : tokenList s ≡ s
 
   pub tokens-valued : Valued s 0 ts bs
   tokens-valued = valued tokens
+
+  pub tokens-floats : Each (FloatCoded s) ts
+  tokens-floats = floats-coded tokens-valued
 
   pub tokens-held : Each (InText s bs) ts
   tokens-held = strings-held [] refl tokens

@@ -6,8 +6,11 @@ use mathlib.Core.List.{List, [], _∷_, _++_}
 use Prim.Native.Nat.{ℕ, zero, suc, _+_, _<_, _≤_}
 use native.Mathlib.Omega.{arith}
 use lib.Dec.{eqb}
+use lib.Ieee.{Float}
 use lib.ListN.{length, getD, take}
 use Rattle.source.specs.Bytes.{part}
+use Rattle.numbers.specs.Decimal.{decimalOf}
+use Rattle.numbers.specs.declared.decimal.Decimal.the-variants as D
 use Rattle.strings.specs.Decoded.{decoded}
 use Rattle.token.specs.Code as Code
 use Rattle.tokens.specs.Token.{Token}
@@ -82,6 +85,16 @@ Held text l L.None = Unit {0}
 
 abbrev pub InText : List ℕ → List ℕ → Token → Type 0
 InText s text t = Held text (bytesOf s t) (t .literal)
+
+-- the token has Float's code, and its bytes have the value x
+pub record FloatOf (s : List ℕ) (t : Token) (x : Float) : Type 0 where
+  pub code : t .code ≡ Code.Float
+  pub value : decimalOf (bytesOf s t) ≡ D.Value x
+
+-- where its literal is a Float the token is so, and a token with Float's code has such a literal
+pub record FloatCoded (s : List ℕ) (t : Token) : Type 0 where
+  pub of : (x : Float) → t .literal ≡ L.Float x → FloatOf s t x
+  pub has : t .code ≡ Code.Float → (x : Float) × (t .literal ≡ L.Float x)
 
 pub each-at : {P : Token → Type 0} {ts : List Token} → Each P ts → (i : ℕ) (d : Token) → i < length ts → P (getD ts i d)
 each-at none i d h = absurd (omega arith)

@@ -19,7 +19,7 @@ use Rattle.printing.specs.Printed.{digits, spaced, nodeLines, printedTree}
 use Rattle.listing.specs.Listing.{printed, printedOutcome, listing}
 
 pub listed : listing (bytes "a<b<c\n") ≡
-    bytes "1 8 6 0 8 7 19 6\n"
+    bytes "2 8 6 0 8 7 19 6\n"
     ++ bytes "0 23 0 1 - 0 1 0 0\n"
     ++ bytes "1 23 2 3 - 2 3 0 0\n"
     ++ bytes "2 25 0 3 - 9 0 1 0\n"

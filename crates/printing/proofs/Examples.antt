@@ -12,6 +12,11 @@ pub halves : nodeLines 7 (made kind.Int 0 2 none none 0 0 ∷ made kind.If 0 9 3
 unfolding digits spaced nodeLines
 halves = refl
 
+-- and so do r and s of a Float, the places of its token (02, change 3): the 0.1 of `(0.10)`
+pub spelling : nodeLines 0 (made kind.Float 0 6 2576980378 1069128089 1 5 ∷ []) ≡ bytes "0 21 0 6 - 2576980378 1069128089 1 5\n"
+unfolding digits spaced nodeLines
+spelling = refl
+
 pub refusal : printedNo 14 65536 ≡ bytes "no 14 65536\n"
 unfolding digits spaced printedNo
 refusal = refl

@@ -10,3 +10,5 @@ pub mod Starred
 pub mod Samples
 pub mod Late
 pub mod Earliest
+pub mod Spans
+pub mod Spelling

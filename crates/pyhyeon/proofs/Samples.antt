@@ -20,7 +20,7 @@ use Rattle.pyhyeon.specs.Symbol.{symbols}
 use Rattle.pyhyeon.specs.Action.{perform}
 use Rattle.pyhyeon.specs.Rules.{plain}
 use Rattle.pyhyeon.specs.Tables.{joined, first, opens}
-use Rattle.pyhyeon.specs.Reading.{Descended, Accepted, Misfit, numberOf, placeOf, workOf, start, descent, trial}
+use Rattle.pyhyeon.specs.Reading.{Accepted, Misfit, numberOf, placeOf, workOf, start, descent, trial}
 use Rattle.pyhyeon.specs.Starred.{tok, int, work, Comes}
 
 -- a name of one letter; a literal; a node that another follows in its list
@@ -87,7 +87,11 @@ record Samples : Type 0 where
   literals : Comes (bytes "'a' or True and None or 2.0")
       (lit String 0 3 (L.String 0 1) ∷ tok Or 4 6 ∷ lit Bool 7 11 (L.Bool true) ∷ tok And 12 15 ∷ tok None 16 20 ∷ tok Or 21 23 ∷ lit Float 24 27 (L.Float (ofInt binary64 (pos 2))) ∷ tok Eof 27 27 ∷ [])
       (Accepted (work 7 28 (made kind.String 0 3 0 1 0 0 ∷ made kind.Bool 7 11 1 0 0 0 ∷ made kind.None 16 20 0 0 0 0 ∷ made kind.Binary 7 20 13 1 2 0 ∷ made kind.Binary 0 20 14 0 3 0
-      ∷ made kind.Float 24 27 0 1073741824 0 0 ∷ made kind.Binary 0 27 14 4 5 0 ∷ made kind.Expr 0 27 6 0 0 0 ∷ made kind.Program 0 27 7 0 0 0 ∷ [])))
+      ∷ made kind.Float 24 27 0 1073741824 24 27 ∷ made kind.Binary 0 27 14 4 5 0 ∷ made kind.Expr 0 27 6 0 0 0 ∷ made kind.Program 0 27 7 0 0 0 ∷ [])))
+  -- a Float's r and s are its token's, in parentheses and as an Assign target too (02, change 3)
+  spellings : Comes (bytes "(2.0) = (2.00)")
+      (tok LParen 0 1 ∷ lit Float 1 4 (L.Float (ofInt binary64 (pos 2))) ∷ tok RParen 4 5 ∷ tok Equal 6 7 ∷ tok LParen 8 9 ∷ lit Float 9 13 (L.Float (ofInt binary64 (pos 2))) ∷ tok RParen 13 14 ∷ tok Eof 14 14 ∷ [])
+      (Accepted (work 7 35 (made kind.Float 0 14 0 1073741824 1 4 ∷ made kind.Float 8 14 0 1073741824 9 13 ∷ made kind.Assign 0 14 0 1 0 0 ∷ made kind.Program 0 14 2 0 0 0 ∷ [])))
 
 samples : Samples
 unfolding andThen orElse orStay seqP altP loop manyP skipP okIf takeFrom takeP seeP actP tailP eval rule enough parse null begins thenD sameD seqD byD loopD tailD manyD listD walk enter ruleD descend symbols perform plain joined first opens start descent trial toBits ofInt
@@ -102,6 +106,7 @@ samples = record {
   loops = record { descends = refl; tries = refl; fields = tt };
   signs = record { descends = refl; tries = refl; fields = tt };
   literals = record { descends = refl; tries = refl; fields = tt };
+  spellings = record { descends = refl; tries = refl; fields = tt };
 }
 
 -- n tokens of one byte from a place on; n parentheses around `a`

@@ -8,3 +8,4 @@ pub mod Reading
 pub mod Sorts
 pub mod Starred
 pub mod Earliest
+pub mod Spelling

@@ -1,4 +1,5 @@
--- What follows of every outcome: its counts are the descent's and within the limits, it agrees with the trial, 14 stands at the earliest misfit, and none is 12.
+-- What follows of every outcome: its counts are the descent's and within the limits, it agrees with the trial, 14 stands at the earliest misfit, Floats keep
+-- their spelling, and none is 12.
 -- Assumes nothing.
 use mathlib.Core.Path.{_≡_, refl, sym, ap, _∙_, subst}
 use mathlib.Core.Bool.{Bool, true, false, cond, _&&_}
@@ -28,13 +29,14 @@ use Rattle.pyhyeon.specs.Tables.{depth, pyhyeon}
 use Rattle.pyhyeon.specs.Reading.{Descended, Accepted, TooDeep, Misfit, Tried, Fits, Fails, Limited, workOf, start, descended, descent, trial}
 use Rattle.pyhyeon.proofs.Agreement as agreement
 use Rattle.pyhyeon.proofs.Limits.{limits}
+use Rattle.pyhyeon.proofs.Spelling as floats
 use Rattle.joint.proofs.Promised.{tokens-counted, script-earliest}
 use Rattle.reader.specs.Answer.{numbersOf, written}
 use Rattle.reader.specs.Outcome.{Area, Outcome, treeArea, records, after, untouched, ofDescent, ofScan, ofUtf8, outcome}
-use Rattle.reader.specs.Reads.{refusedBy, nothing, countsOf, countsIn, descentCounts, trialOf, accepts, nodesIn, EarliestOf, Reads}
+use Rattle.reader.specs.Reads.{refusedBy, nothing, countsOf, countsIn, descentCounts, trialOf, accepts, nodesIn, EarliestOf, SpellingsOf, Alike, Reads}
 use Rattle.reader.specs.declared.Answer.{Answer}
 use Rattle.reader.specs.declared.Answer.the-variants.{No}
-use Rattle.reader.proofs.Filled.{area-front, area-records, length-records}
+use Rattle.reader.proofs.Filled.{nodes-are, area-front, area-records, length-records}
 
 -- the fields of `Reads` that follow, for an answer and the areas of text and tree, where the token list is x
 record Follows (src : List ℕ) (x : Scan) (r : Answer) (text tree : Area) : Type 0 where
@@ -49,6 +51,7 @@ record Follows (src : List ℕ) (x : Scan) (r : Answer) (text tree : Area) : Typ
   words : numbersOf r .number ≡ 0 → (tree₀ : List ℕ) → take (8 * numbersOf r .nodes) (drop 8 (after tree (treeArea (length src)) tree₀)) ≡ records (nodesIn (trialOf src x))
   decoded : numbersOf r .number ≡ 0 → (text₀ : List ℕ) → take (numbersOf r .text) (after text (length src) text₀) ≡ textBytes x
   earliest : numbersOf r .number ≡ 14 → EarliestOf src x (numbersOf r .place)
+  spellings : numbersOf r .number ≡ 0 → SpellingsOf src x (nodesIn (trialOf src x))
   never-12 : numbersOf r .number ≡ 12 → ⊥
 
 -- a refusal before the descent
@@ -69,6 +72,7 @@ early src x number place text tree least most =
       words = λ e. absurd (omega arith);
       decoded = λ e. absurd (omega arith);
       earliest = λ e. absurd (omega arith);
+      spellings = λ e. absurd (omega arith);
       never-12 = λ e. omega arith;
     }
 
@@ -113,6 +117,7 @@ module _ (src : List ℕ) (ts : List Token) (bs : List ℕ) (is : tokenList src 
             ∙ ap (λ (x : Tried). records (nodesIn x)) (sym t);
         decoded = λ _ text₀. area-front (length src) (length bs) bs text₀ refl;
         earliest = λ f. absurd (omega arith);
+        spellings = λ _. rw t (floats.spellings src ts bs is w e);
         never-12 = λ f. omega arith;
       }
   late (TooDeep place w) e =
@@ -129,6 +134,7 @@ module _ (src : List ℕ) (ts : List Token) (bs : List ℕ) (is : tokenList src 
         words = λ f. absurd (omega arith);
         decoded = λ f. absurd (omega arith);
         earliest = λ f. absurd (omega arith);
+        spellings = λ f. absurd (omega arith);
         never-12 = λ f. omega arith;
       }
   late (Misfit place w) e =
@@ -146,6 +152,7 @@ module _ (src : List ℕ) (ts : List Token) (bs : List ℕ) (is : tokenList src 
         words = λ f. absurd (omega arith);
         decoded = λ f. absurd (omega arith);
         earliest = λ _. script-earliest src ts bs is place w e;
+        spellings = λ f. absurd (omega arith);
         never-12 = λ f. omega arith;
       }
 
@@ -182,7 +189,7 @@ no-answer-12 src tokens text tree = of-all src tokens text tree .never-12
 pub promised : (src tokens₀ text₀ tree₀ : List ℕ) {o : Outcome} {r : Answer} {tokens text tree : List ℕ} → outcome src (length tokens₀) (length text₀) (length tree₀) ≡ o → r ≡ o .answer
     → tokens ≡ after (o .tokens) (tokenArea (length src)) tokens₀ → text ≡ after (o .text) (length src) text₀ → tree ≡ after (o .tree) (treeArea (length src)) tree₀
     → Reads src r tokens₀ text₀ tree₀ tokens text tree
-promised src tokens₀ text₀ tree₀ {o} {r} is e p q s =
+promised src tokens₀ text₀ tree₀ {o} {r} {tokens} {text} {tree} is e p q s =
     record {
       answer = rw is e;
       tokens-are = rw is p;
@@ -196,14 +203,18 @@ promised src tokens₀ text₀ tree₀ {o} {r} is e p q s =
       few-tokens = f .few-tokens;
       few-bytes = f .few-bytes;
       exactly = f .exactly;
-      alike = λ z. record {
-        count = f .count z;
-        words = ap (λ (l : List ℕ). take (8 * numbersOf r .nodes) (drop 8 l)) s ∙ f .words z tree₀;
-        decoded = ap (take (numbersOf r .text)) q ∙ f .decoded z text₀;
-      };
+      alike = alike;
       earliest = f .earliest;
+      spellings = λ z. rw (nodes-are tree (numbersOf r .nodes) (nodesIn (trialOf src (tokenList src))) (f .count z) (alike z .words)) (f .spellings z);
       never-12 = f .never-12;
     }
   where
     f : Follows src (tokenList src) r (o .text) (o .tree)
     f = subst (λ (a : Answer). Follows src (tokenList src) a (o .text) (o .tree)) (sym e) (subst (Of src) is (of-all src (length tokens₀) (length text₀) (length tree₀)))
+
+    alike : numbersOf r .number ≡ 0 → Alike src (numbersOf r .nodes) (numbersOf r .text) text tree
+    alike z = record {
+      count = f .count z;
+      words = ap (λ (l : List ℕ). take (8 * numbersOf r .nodes) (drop 8 l)) s ∙ f .words z tree₀;
+      decoded = ap (take (numbersOf r .text)) q ∙ f .decoded z text₀;
+    }

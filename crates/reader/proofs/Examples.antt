@@ -28,7 +28,7 @@ empty = ap (λ (o : Outcome). o .answer) (reads [] (starred .nothing))
 
 -- its tree in a slice that is longer by two: the header, one record, and what lies beyond
 empty-tree : after (outcome [] 3 0 18 .tree) 16 (9 ∷ 9 ∷ 9 ∷ 9 ∷ 9 ∷ 9 ∷ 9 ∷ 9 ∷ 9 ∷ 9 ∷ 9 ∷ 9 ∷ 9 ∷ 9 ∷ 9 ∷ 9 ∷ 5 ∷ 6 ∷ [])
-    ≡ 1 ∷ 1 ∷ 0 ∷ 0 ∷ 8 ∷ 0 ∷ 1 ∷ 0 ∷ 1 ∷ 0 ∷ 0 ∷ none ∷ none ∷ 0 ∷ 0 ∷ 0 ∷ 5 ∷ 6 ∷ []
+    ≡ 2 ∷ 1 ∷ 0 ∷ 0 ∷ 8 ∷ 0 ∷ 1 ∷ 0 ∷ 1 ∷ 0 ∷ 0 ∷ none ∷ none ∷ 0 ∷ 0 ∷ 0 ∷ 5 ∷ 6 ∷ []
 unfolding outcome utf8Error firstIllFormed area
 empty-tree = ap (λ (o : Outcome). after (o .tree) 16 (9 ∷ 9 ∷ 9 ∷ 9 ∷ 9 ∷ 9 ∷ 9 ∷ 9 ∷ 9 ∷ 9 ∷ 9 ∷ 9 ∷ 9 ∷ 9 ∷ 9 ∷ 9 ∷ 5 ∷ 6 ∷ [])) (reads [] (starred .nothing))
 

@@ -1,14 +1,15 @@
 -- Zeros in an area, and the records of a tree's nodes.
 -- Assumes nothing.
-use mathlib.Core.Path.{_≡_, refl, ap, _∙_}
+use mathlib.Core.Path.{_≡_, refl, sym, ap, ap₂, _∙_}
 use mathlib.Core.List.{List, [], _∷_, _++_, append-nil, append-assoc}
 use Prim.Native.Nat.{ℕ, zero, suc, _+_, _-_, _*_, _≤_}
 use native.Mathlib.Omega.{arith}
-use lib.ListN.{length, getD, take, drop, replicate, length-append, length-drop}
+use lib.ListN.{length, getD, take, drop, replicate, length-append, length-drop, length-take}
 use lib.Seq.{length-take-le, drop-length, drop-cons, drop-drop, take-add, take-append-add, take-at}
 use Rattle.areas.specs.Area.{area, zeroed}
 use Rattle.ast.specs.Node.{Node, words}
 use Rattle.ast.specs.Words.{tabulate, nodeAt, nodesOf}
+use Rattle.ast.proofs.Nodes.{length-nodes}
 use Rattle.reader.specs.Outcome.{treeArea, header, records}
 use Rattle.reader.specs.Steps.{padded}
 
@@ -77,6 +78,31 @@ records-of tree k h = records-from tree 0 k (omega arith)
 pub length-records : (ns : List Node) → length (records ns) ≡ 8 * length ns
 length-records [] = refl
 length-records (n ∷ ns) = omega (arith, length-records ns)
+
+-- equal words are equal nodes
+node-same : (x y : Node) → words x ≡ words y → x ≡ y
+node-same x y e = ap of e
+  where
+    of : List ℕ → Node
+    of l = record { kind = getD l 0 0; start = getD l 1 0; end = getD l 2 0; next = getD l 3 0; p = getD l 4 0; q = getD l 5 0; r = getD l 6 0; s = getD l 7 0 }
+
+records-same : (xs ys : List Node) → length xs ≡ length ys → records xs ≡ records ys → xs ≡ ys
+records-same [] [] l e = refl
+records-same [] (y ∷ ys) l e = absurd (omega arith)
+records-same (x ∷ xs) [] l e = absurd (omega arith)
+records-same (x ∷ xs) (y ∷ ys) l e =
+    let w : words x ≡ words y = cc in
+    let t : records xs ≡ records ys = cc in
+    ap₂ _∷_ (node-same x y w) (records-same xs ys (omega arith) t)
+
+-- the nodes of a tree whose words are these records
+pub nodes-are : (tree : List ℕ) (k : ℕ) (ns : List Node) → k ≡ length ns → take (8 * k) (drop 8 tree) ≡ records ns → nodesOf tree k ≡ ns
+unfolding nodesOf
+nodes-are tree k [] e h = rw e
+nodes-are tree k (n ∷ ns) e h =
+    let m : length (take (8 * k) (drop 8 tree)) ≡ 8 * k = ap length h ∙ length-records (n ∷ ns) ∙ omega arith in
+    let long : 8 * k + 8 ≤ length tree = omega (arith, length-take (8 * k) (drop 8 tree), length-drop 8 tree) in
+    records-same (nodesOf tree k) (n ∷ ns) (length-nodes tree k ∙ e) (sym (records-of tree k long) ∙ h)
 
 -- what stands in front of an area's zeros
 pub area-front : (size k : ℕ) (filled before : List ℕ) → length filled ≡ k → take k (area size filled before) ≡ filled

@@ -22,9 +22,13 @@ use Rattle.reader.specs.declared.Answer.the-variants.{Tree, No, Stopped}
 abbrev pub treeArea : ℕ → ℕ
 treeArea n = 16 * n + 16
 
--- "a header of counts and offsets (version 1, nodes N, T, text bytes, node offset 8, root N - 1, rules opened, n)"
+-- "The header's version becomes 2" (02, change 3)
+abbrev pub version : ℕ
+version = 2
+
+-- "a header of counts and offsets (version .., nodes N, T, text bytes, node offset 8, root N - 1, rules opened, n)"
 abbrev pub header : ℕ → ℕ → ℕ → ℕ → ℕ → List ℕ
-header n tokens text nodes openings = 1 ∷ nodes ∷ tokens ∷ text ∷ 8 ∷ (nodes - 1) ∷ openings ∷ n ∷ []
+header n tokens text nodes openings = version ∷ nodes ∷ tokens ∷ text ∷ 8 ∷ (nodes - 1) ∷ openings ∷ n ∷ []
 
 -- "then N records of 8 words"
 abbrev pub records : List Node → List ℕ

@@ -10,8 +10,10 @@ use Rattle.areas.specs.Area.{tokenArea}
 use Rattle.lexer.specs.Scan.{Scan, scanned, refused, tokenList}
 use Rattle.lexer.specs.Words.{textBytes}
 use Rattle.ast.specs.Node.{Node}
+use Rattle.ast.specs.Words.{nodesOf}
 use Rattle.pyhyeon.specs.Reading.{Work, Tried, Fits, Fails, workOf, descent, trial}
 use Rattle.pyhyeon.specs.Earliest.{Earliest}
+use Rattle.pyhyeon.specs.Spelling.{Spellings}
 use Rattle.reader.specs.Answer.{numbersOf, written}
 use Rattle.reader.specs.Outcome.{treeArea, records, after, outcome}
 use Rattle.reader.specs.declared.Answer.{Answer}
@@ -60,13 +62,18 @@ abbrev pub EarliestOf : List ℕ → Scan → ℕ → Type 0
 EarliestOf src (scanned ts bs) place = Earliest src ts place
 EarliestOf src (refused number at) place = ⊥
 
+-- these nodes have the Floats of the token list, each with its spelling
+abbrev pub SpellingsOf : List ℕ → Scan → List Node → Type 0
+SpellingsOf src (scanned ts bs) ns = Spellings src ts ns
+SpellingsOf src (refused number place) ns = ⊥
+
 -- "Trees are alike when N, all words of the N records and the text are": so many nodes and bytes of text, in these slices, and the trial's
 pub record Alike (src : List ℕ) (nodes bytes : ℕ) (text tree : List ℕ) : Type 0 where
   pub count : nodes ≡ length (nodesIn (trialOf src (tokenList src)))
   pub words : take (8 * nodes) (drop 8 tree) ≡ records (nodesIn (trialOf src (tokenList src)))
   pub decoded : take bytes text ≡ textBytes (tokenList src)
 
--- The answer r to a source, and the three slices before and after. The first four fields say all; the others follow from them, and are what 01 asks.
+-- The answer r to a source, and the three slices before and after. The first four fields say all; the others follow from them, and are what 01 and 02 ask.
 pub record Reads (src : List ℕ) (r : Answer) (tokens₀ text₀ tree₀ tokens text tree : List ℕ) : Type 0 where
   -- "Questions put to a script, first no decides": the answer
   pub answer : r ≡ outcome src (length tokens₀) (length text₀) (length tree₀) .answer
@@ -93,5 +100,8 @@ pub record Reads (src : List ℕ) (r : Answer) (tokens₀ text₀ tree₀ tokens
   pub alike : numbersOf r .number ≡ 0 → Alike src (numbersOf r .nodes) (numbersOf r .text) text tree
   -- "Then the earliest token: .. 14 does it fit the grammar? (its start; Eof is n)"
   pub earliest : numbersOf r .number ≡ 14 → EarliestOf src (tokenList src) (numbersOf r .place)
+  -- "A Float record carries in r and s the start and end of its token" (02, change 3): so it is in the tree's words, in order and of all Floats, and p and q are the
+  -- value of the bytes there
+  pub spellings : numbersOf r .number ≡ 0 → SpellingsOf src (tokenList src) (nodesOf tree (numbersOf r .nodes))
   -- "so 12 never occurs from here on" (02, change 1)
   pub never-12 : numbersOf r .number ≡ 12 → ⊥

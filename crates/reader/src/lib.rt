@@ -19,6 +19,9 @@ use utf8::Utf8;
 // The longest source that question 1 lets through.
 pub const LONGEST: usize = 65536;
 
+// The header's version: a Float keeps its token's span since 2 (02, change 3). specs/Outcome.antt has the same number.
+pub const VERSION: u32 = 2;
+
 // specs/Answer.antt has 01's six numbers of each case.
 pub enum Answer {
     // Accepted: the areas hold T tokens, N nodes and so many bytes of text; so many rules were opened.
@@ -49,7 +52,7 @@ fn put_header(tree: &mut [u32], n: usize, tokens: usize, text: usize, nodes: usi
     requires { ⌜ Counted n tokens text nodes openings ⌝ }
     ensures { λ _. ⌜ now (tree .exit) ≡ header n tokens text nodes openings ++ drop 8 (now (tree .entry)) ⌝ }
 {
-    tree[0] = 1;
+    tree[0] = VERSION;
     tree[1] = nodes as u32;
     tree[2] = tokens as u32;
     tree[3] = text as u32;

@@ -11,7 +11,7 @@ use mir.Facts.{toZ-ofZ}
 use Rattle.numbers.specs.Bits.{halvesOf, twosComplement}
 use Rattle.literal.specs.declared.Literal.{Literal}
 use Rattle.literal.specs.Literal.{hasBits}
-use Rattle.ast.specs.Literal.{leaf, halved, leafOf}
+use Rattle.ast.specs.Literal.{leaf, halved, spelled, leafOf}
 use borrow.Author.Needs.{needs}
 use Rattle.ast.proofs.leaf_of.Statement.{statement}
 use Rattle.ast.proofs.leaf_of.Tie as tie
@@ -51,34 +51,31 @@ enum-known-l-4 c = search needs
 of-f64-requires : tie.Need-of-f64-requires
 of-f64-requires c κs = subst (λ (l : Literal). T (hasBits l)) (c .before .l4 .given .1) (c .before .before .before .pre)
 
-leaf-with-requires-4 : tie.Need-leaf-with-requires-4
-leaf-with-requires-4 c κs = search needs
-
 enum-told : tie.Need-enum-told
 enum-told c = search needs
 
-leaf-with-requires-5 : tie.Need-leaf-with-requires-5
-leaf-with-requires-5 c κs = search needs
+leaf-with-requires-4 : tie.Need-leaf-with-requires-4
+leaf-with-requires-4 c κs = search needs
 
 returns : tie.Need-returns
 returns c =
-    c .leaf-with .ensures ∙ ap (λ (p : ℕ). leaf 18 p 0) (byte (c .before .before .l .given .0 .0)) ∙ sym (ap leafOf (c .before .before .l .given .1))
+    c .leaf-with .ensures ∙ ap (λ (p : ℕ). leaf 18 p 0) (byte (c .before .before .l .given .0 .0)) ∙ sym (ap (leafOf _ _) (c .before .before .l .given .1))
 
 returns-2 : tie.Need-returns-2
 returns-2 c =
     c .leaf-with2 .ensures
     ∙ ap (halved 19) (c .before .of-i64 .ensures)
     ∙ ap (λ (z : ℤ). halved 19 (halvesOf (twosComplement z))) (toZ-ofZ {w = w64} {z = c .before .before .before .l2 .given .0 .0} (search needs))
-    ∙ sym (ap leafOf (c .before .before .before .l2 .given .1))
+    ∙ sym (ap (leafOf _ _) (c .before .before .before .l2 .given .1))
 
 returns-3 : tie.Need-returns-3
-returns-3 c = c .leaf-with3 .ensures ∙ sym (ap leafOf (c .before .before .l3 .given .1))
+returns-3 c = c .leaf-with3 .ensures ∙ sym (ap (leafOf _ _) (c .before .before .l3 .given .1))
 
 returns-4 : tie.Need-returns-4
-returns-4 c = c .leaf-with4 .ensures ∙ ap (halved 21) (c .before .of-f64 .ensures) ∙ sym (ap leafOf (c .before .before .before .l4 .given .1))
+returns-4 c = ap (spelled _ _) (c .of-f64 .ensures) ∙ sym (ap (leafOf _ _) (c .before .before .l4 .given .1))
 
 returns-5 : tie.Need-returns-5
-returns-5 c = c .leaf-with5 .ensures ∙ sym (ap leafOf (c .before .enum-told .given .1))
+returns-5 c = c .leaf-with4 .ensures ∙ sym (ap (leafOf _ _) (c .before .enum-told .given .1))
 
 pub leaf-of-spec : {M : Type 1} → statement M
 leaf-of-spec =
@@ -94,9 +91,8 @@ leaf-of-spec =
     leaf-with-requires-3
     enum-known-l-4
     of-f64-requires
-    leaf-with-requires-4
     enum-told
-    leaf-with-requires-5
+    leaf-with-requires-4
     returns
     returns-2
     returns-3

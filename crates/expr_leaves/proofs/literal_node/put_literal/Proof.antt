@@ -61,7 +61,7 @@ returns c =
     let h = start .pre .1 .0 in
     let g = given _ _ _ (c .before .before .before .before .before .before .literal-of .ensures) (c .before .before .before .before .before .before .before .before .before .before .before .code-at .ensures) (c .before .before .before .before .before .before .before .before .before .before .start-at .ensures) (c .before .before .before .before .before .before .before .before .before .end-at .ensures) (start .pre .1 .1) in
     let z : start .args .s .at .0 - 1 + 1 ≡ start .args .s .at .0 = omega (arith, h .some) in
-    literal-wrote h (c .before .before .put-opened .ensures) (c .before .before .before .before .text-after .ensures ∙ (rw z at (g .text))) (leaf-node _ _ (c .before .before .before .before .before .leaf-of .ensures) (g .same))
+    literal-wrote h (c .before .before .put-opened .ensures) (c .before .before .before .before .text-after .ensures ∙ (rw z at (g .text))) (leaf-node _ _ (c .before .before .before .before .before .leaf-of .ensures) (c .before .before .before .before .before .before .before .before .before .before .start-at .ensures) (c .before .before .before .before .before .before .before .before .before .end-at .ensures) (g .same))
 
 pub put-literal-spec : {M : Type 1} → statement M
 put-literal-spec =
