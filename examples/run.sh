@@ -38,6 +38,9 @@ printf 'if a:\n   b\n' >"$scripts/too_far"
 printf 'if a:\n  b\n c\n' >"$scripts/no_level"
 printf '$' >"$scripts/no_token"
 printf '1.0e24' >"$scripts/float"
+printf '(0.10)' >"$scripts/spelling"
+printf '0.10 = 2.5' >"$scripts/spelled_target"
+printf '\352\261\260\353\246\254 = (1.50e+1), 007.5, 100.0, x.y(0.10)\n' >"$scripts/spellings"
 printf 'a\303\251' >"$scripts/letter"
 printf 'a\342\202\254' >"$scripts/euro"
 printf '\302\267' >"$scripts/middle_dot"
@@ -69,5 +72,20 @@ for script in "$scripts"/*; do
     esac
     count=$((count + 1))
 done
+# 0.1's bits, and as it is written: the node's span has parentheses in the one, and is the whole Assign's in the other
+for line in 'spelling:0 Float 0 6 3fb999999999999a 0\.10' 'spelled_target:0 Float 0 10 3fb999999999999a 0\.10'; do
+    grep -qx " *${line#*:}" "$work/${line%%:*}.walk_c" || { echo "${line%%:*}: no line ${line#*:}" >&2 && exit 1; }
+done
+# with a header of another version than the library's the walk prints no tree
+mkdir "$work/older"
+sed 's/^#define TARBUCKET_VERSION .*/#define TARBUCKET_VERSION 1u/' include/tarbucket.h >"$work/older/tarbucket.h"
+"${CC:-cc}" -std=c99 -I"$work/older" examples/c/walk.c target/staticlib/libffi.a -o "$work/walk_older"
+status=0
+"$work/walk_older" "$scripts/spelling" >"$work/older/walk" 2>&1 || status=$?
+case "$status $(cat "$work/older/walk")" in
+"2 the library is of another version than tarbucket.h") ;;
+*) echo "a header of version 1: status $status, $(cat "$work/older/walk")" >&2 && exit 1 ;;
+esac
 head -n 12 "$work/kiosk.pyh.walk_c"
+cat "$work/spelling.walk_c"
 echo "examples: $count scripts, the same output from the program, C and Rust"

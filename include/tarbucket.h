@@ -126,9 +126,13 @@ enum {
     TARBUCKET_TOKEN_EOF = 49            /* empty, at n */
 };
 
+/* The version of the tree's words. Since 2 a Float has the span of its token in r and s, which were 0. A caller should compare the header's first word with
+ * it: a library of another version may be linked. */
+#define TARBUCKET_VERSION 2u
+
 /* The header: the first eight words of `tree`. */
 enum {
-    TARBUCKET_HEADER_VERSION = 0,  /* 1 */
+    TARBUCKET_HEADER_VERSION = 0,  /* TARBUCKET_VERSION */
     TARBUCKET_HEADER_NODES = 1,    /* N */
     TARBUCKET_HEADER_TOKENS = 2,   /* T */
     TARBUCKET_HEADER_TEXT = 3,     /* the bytes of text */
@@ -157,10 +161,12 @@ enum {
 
 /* The kinds, and what p, q, r and s hold.
  *
- *   node   a node number
- *   node?  a node number or none
- *   list   the number of the first member or none; the members follow by `next`
- *   name   two fields: where a name starts and ends in the source, in bytes
+ *   node      a node number
+ *   node?     a node number or none
+ *   list      the number of the first member or none; the members follow by `next`
+ *   name      two fields: where a name starts and ends in the source, in bytes
+ *   spelling  two fields: where a Float's token starts and ends in the source, likewise. The node's span takes in parentheses around it, and is the whole
+ *             statement's where the Float is an Assign's target: in `(0.10)` the node is 0 to 6, its spelling 1 to 5.
  *
  * A name is UTF-8 in any script: an XID_Start character of Unicode 15.0.0 or an underscore, then XID_Continue characters. It is not normalised: two names
  * are the same where their bytes are.
@@ -187,7 +193,7 @@ enum {
     TARBUCKET_BOOL = 18,      /* p: 1 for True, 0 for False */
     TARBUCKET_INT = 19,       /* p: low half, q: high half of 64 bits, two's complement */
     TARBUCKET_STRING = 20,    /* p: offset, q: length of the decoded bytes in `text` */
-    TARBUCKET_FLOAT = 21,     /* p: low half, q: high half of the 64 bits of an IEEE 754 double */
+    TARBUCKET_FLOAT = 21,     /* p: low half, q: high half of the 64 bits of an IEEE 754 double; r s spelling */
     TARBUCKET_NONE_VALUE = 22, /* no fields: None */
     TARBUCKET_VARIABLE = 23,  /* p q name */
     TARBUCKET_UNARY = 24,     /* p: unary operator; q node */

@@ -43,7 +43,7 @@ static const struct {
     {"Bool", {WORD, UNUSED, UNUSED, UNUSED}},
     {"Int", {WORD, WORD, UNUSED, UNUSED}},
     {"String", {WORD, WORD, UNUSED, UNUSED}},
-    {"Float", {WORD, WORD, UNUSED, UNUSED}},
+    {"Float", {WORD, WORD, WORD, WORD}},
     {"None", {UNUSED, UNUSED, UNUSED, UNUSED}},
     {"Variable", {WORD, WORD, UNUSED, UNUSED}},
     {"Unary", {WORD, NODE, UNUSED, UNUSED}},
@@ -78,10 +78,17 @@ static void print_bytes(const uint8_t *src, uint32_t start, uint32_t end)
     fwrite(src + start, 1, end - start, stdout);
 }
 
-/* The name, value or operator of a node that has one, behind a space. */
+static void print_hex(const uint8_t *bytes, uint32_t count)
+{
+    putchar(' ');
+    while (count--)
+        printf("%02x", *bytes++);
+}
+
+/* The name, value or operator of a node that has one, behind a space; of a Float the 64 bits of its value, and as it is written. */
 static void print_value(const uint32_t *node, const uint8_t *src, const uint8_t *text)
 {
-    uint32_t p = node[TARBUCKET_NODE_P], q = node[TARBUCKET_NODE_Q], i;
+    uint32_t p = node[TARBUCKET_NODE_P], q = node[TARBUCKET_NODE_Q];
     uint64_t bits = (uint64_t)q << 32 | p;
 
     switch (node[TARBUCKET_NODE_KIND]) {
@@ -104,11 +111,10 @@ static void print_value(const uint32_t *node, const uint8_t *src, const uint8_t 
         break;
     case TARBUCKET_FLOAT:
         printf(" %016" PRIx64, bits);
+        print_bytes(src, node[TARBUCKET_NODE_R], node[TARBUCKET_NODE_S]);
         break;
     case TARBUCKET_STRING:
-        putchar(' ');
-        for (i = 0; i < q; i++)
-            printf("%02x", text[p + i]);
+        print_hex(text + p, q);
         break;
     case TARBUCKET_UNARY:
         printf(" %s", unary[p]);
@@ -197,6 +203,18 @@ static void list(const uint32_t *tree)
     }
 }
 
+static void print_tree(const uint32_t *tree, const uint8_t *src, const uint8_t *text, int listing)
+{
+    if (tree[TARBUCKET_HEADER_VERSION] != TARBUCKET_VERSION) {
+        fputs("the library is of another version than tarbucket.h\n", stderr);
+        exit(2);
+    }
+    if (listing)
+        list(tree);
+    else
+        walk(tree, src, text);
+}
+
 int main(int argc, char **argv)
 {
     int listing = argc > 1 && !strcmp(argv[1], "--list");
@@ -219,12 +237,8 @@ int main(int argc, char **argv)
 
         tarbucket_parse_source(src, n, tokens, TARBUCKET_TOKENS_WORDS(n), text, TARBUCKET_TEXT_BYTES(n), tree, TARBUCKET_TREE_WORDS(n), answer,
                                TARBUCKET_ANSWER_WORDS);
-        if (answer[TARBUCKET_ANSWER_NUMBER] == TARBUCKET_ACCEPTED) {
-            if (listing)
-                list(tree);
-            else
-                walk(tree, src, text);
-        }
+        if (answer[TARBUCKET_ANSWER_NUMBER] == TARBUCKET_ACCEPTED)
+            print_tree(tree, src, text, listing);
         free(tree);
         free(text);
         free(tokens);

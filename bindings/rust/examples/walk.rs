@@ -45,7 +45,7 @@ fn main() -> io::Result<()> {
     out.flush()
 }
 
-/// The name, value or operator of a node that has one, behind a space.
+/// The name, value or operator of a node that has one, behind a space; of a Float the 64 bits of its value, and as it is written.
 fn value(node: Node, out: &mut impl Write) -> io::Result<()> {
     match node.shape() {
         Shape::For { name, .. }
@@ -54,13 +54,13 @@ fn value(node: Node, out: &mut impl Write) -> io::Result<()> {
         | Shape::Class { name, .. }
         | Shape::Name { name }
         | Shape::Variable { name }
-        | Shape::Attribute { name, .. } => {
-            out.write_all(b" ")?;
-            out.write_all(name)
-        }
+        | Shape::Attribute { name, .. } => put(name, out),
         Shape::Bool(b) => write!(out, " {}", b as u32),
         Shape::Int(n) => write!(out, " {n}"),
-        Shape::Float(x) => write!(out, " {:016x}", x.to_bits()),
+        Shape::Float(x) => {
+            write!(out, " {:016x}", x.to_bits())?;
+            put(node.spelling().expect("a Float has one"), out)
+        }
         Shape::String(bytes) => {
             out.write_all(b" ")?;
             bytes.iter().try_for_each(|b| write!(out, "{b:02x}"))
@@ -69,4 +69,9 @@ fn value(node: Node, out: &mut impl Write) -> io::Result<()> {
         Shape::Binary { operator, .. } => write!(out, " {}", operator.symbol()),
         _ => Ok(()),
     }
+}
+
+fn put(bytes: &[u8], out: &mut impl Write) -> io::Result<()> {
+    out.write_all(b" ")?;
+    out.write_all(bytes)
 }

@@ -73,7 +73,7 @@ kinds! {
     18 Bool Word Unused Unused Unused
     19 Int Word Word Unused Unused
     20 String Word Word Unused Unused
-    21 Float Word Word Unused Unused
+    21 Float Word Word Word Word
     22 None Unused Unused Unused Unused
     23 Variable Word Word Unused Unused
     24 Unary Word Node Unused Unused

@@ -38,6 +38,9 @@ pub const LONGEST: usize = 65536;
 /// A call needs at most so many bytes of stack, the caller's own frames and signal handlers aside. Measured by stack/run.sh, not proved.
 pub const STACK: usize = 65536;
 
+/// The version of a tree's words, which its header has. Since 2 a Float has the span of its token, see [`Node::spelling`].
+pub const VERSION: u32 = 2;
+
 /// No node, where a word holds a node number.
 pub const NONE: u32 = u32::MAX;
 
@@ -141,7 +144,7 @@ impl Reader {
         self.filled = token_words(counts.tokens as usize);
         let text = &self.text[..counts.text as usize];
         let words = &self.tree[..8 + 8 * counts.nodes as usize];
-        Ok(Tree::new(src, text, words).expect("words that the reader wrote"))
+        Ok(Tree::new(src, text, words).expect("a static library of the version of these bindings"))
     }
 
     /// Code, start and end of each token of the source that was read last, Eof last. Empty where it was refused.

@@ -2,7 +2,7 @@ use crate::kind::{BinaryOp, Kind, UnaryOp};
 use crate::tree::{List, Node};
 
 /// A node by its kind, with its parts. Names are bytes of the source, UTF-8 in any script and not normalised: two are the same where their bytes are. A
-/// String's value is the decoded bytes.
+/// String's value is the decoded bytes; a Float's is the double nearest to what is written, which [`Node::spelling`] has.
 #[derive(Clone, Debug)]
 pub enum Shape<'a> {
     Program { lines: List<'a> },
@@ -51,30 +51,30 @@ impl<'a> Node<'a> {
             Kind::Program => Shape::Program { lines: self.list(p) },
             Kind::If => Shape::If { condition: self.part(p), body: self.list(q), elifs: self.list(r), otherwise: self.maybe(s) },
             Kind::While => Shape::While { condition: self.part(p), body: self.list(q) },
-            Kind::For => Shape::For { name: self.name(p, q), over: self.part(r), body: self.list(s) },
-            Kind::Def => Shape::Def { name: self.name(p, q), parameters: self.list(r), body: self.list(s) },
+            Kind::For => Shape::For { name: self.bytes(p, q), over: self.part(r), body: self.list(s) },
+            Kind::Def => Shape::Def { name: self.bytes(p, q), parameters: self.list(r), body: self.list(s) },
             Kind::Return => Shape::Return { value: self.part(p) },
             Kind::Assign => Shape::Assign { target: self.part(p), value: self.part(q) },
-            Kind::Class => Shape::Class { name: self.name(p, q), methods: self.list(r) },
+            Kind::Class => Shape::Class { name: self.bytes(p, q), methods: self.list(r) },
             Kind::Break => Shape::Break,
             Kind::Continue => Shape::Continue,
             Kind::Pass => Shape::Pass,
             Kind::Expr => Shape::Expr { value: self.part(p) },
-            Kind::Method => Shape::Method { name: self.name(p, q), parameters: self.list(r), body: self.list(s) },
+            Kind::Method => Shape::Method { name: self.bytes(p, q), parameters: self.list(r), body: self.list(s) },
             Kind::Elif => Shape::Elif { condition: self.part(p), body: self.list(q) },
             Kind::Else => Shape::Else { body: self.list(p) },
-            Kind::Name => Shape::Name { name: self.name(p, q) },
+            Kind::Name => Shape::Name { name: self.bytes(p, q) },
             Kind::Pair => Shape::Pair { key: self.part(p), value: self.part(q) },
             Kind::Bool => Shape::Bool(p == 1),
             Kind::Int => Shape::Int(bits as i64),
             Kind::String => Shape::String(&self.tree().text()[p as usize..p as usize + q as usize]),
             Kind::Float => Shape::Float(f64::from_bits(bits)),
             Kind::None => Shape::None,
-            Kind::Variable => Shape::Variable { name: self.name(p, q) },
+            Kind::Variable => Shape::Variable { name: self.bytes(p, q) },
             Kind::Unary => Shape::Unary { operator: UnaryOp::of(p).expect("a checked tree"), operand: self.part(q) },
             Kind::Binary => Shape::Binary { operator: BinaryOp::of(p).expect("a checked tree"), left: self.part(q), right: self.part(r) },
             Kind::Call => Shape::Call { callee: self.part(p), arguments: self.list(q) },
-            Kind::Attribute => Shape::Attribute { object: self.part(p), name: self.name(q, r) },
+            Kind::Attribute => Shape::Attribute { object: self.part(p), name: self.bytes(q, r) },
             Kind::List => Shape::List { members: self.list(p) },
             Kind::Dict => Shape::Dict { pairs: self.list(p) },
             Kind::Tuple => Shape::Tuple { members: self.list(p) },
@@ -83,5 +83,23 @@ impl<'a> Node<'a> {
             Kind::Index => Shape::Index { object: self.part(p), index: self.part(q) },
             Kind::Lambda => Shape::Lambda { parameters: self.list(p), value: self.part(q) },
         }
+    }
+
+    /// A Float as it is written: the bytes of its token. The node's own span is wider in parentheses, and as the target of an Assign it is the statement's.
+    /// None where the node is no Float.
+    ///
+    /// ```
+    /// use tarbucket::{Reader, Shape};
+    ///
+    /// let mut reader = Reader::new();
+    /// let tree = reader.read(b"(0.10)").unwrap();
+    /// let node = tree.node(0).unwrap();
+    /// assert!(matches!(node.shape(), Shape::Float(value) if value == 0.1));
+    /// assert_eq!(node.spelling(), Some(&b"0.10"[..]));
+    /// assert_eq!(node.text(), b"(0.10)");
+    /// ```
+    pub fn spelling(&self) -> Option<&'a [u8]> {
+        let w = self.words();
+        (self.kind() == Kind::Float).then(|| self.bytes(w[6], w[7]))
     }
 }

@@ -1,5 +1,7 @@
 use crate::*;
 
+mod spelling;
+
 fn number_and_place(src: &[u8]) -> (u32, usize) {
     match Reader::new().read(src) {
         Ok(_) => (0, 0),
@@ -122,7 +124,7 @@ fn a_walk_meets_each_node_once() {
 #[test]
 fn the_listing_of_the_definition() {
     let mut reader = Reader::new();
-    let expected = "1 8 6 0 8 7 19 6\n0 23 0 1 - 0 1 0 0\n1 23 2 3 - 2 3 0 0\n2 25 0 3 - 9 0 1 0\n3 23 4 5 - 4 5 0 0\n4 25 2 5 - 9 1 3 0\n\
+    let expected = "2 8 6 0 8 7 19 6\n0 23 0 1 - 0 1 0 0\n1 23 2 3 - 2 3 0 0\n2 25 0 3 - 9 0 1 0\n3 23 4 5 - 4 5 0 0\n4 25 2 5 - 9 1 3 0\n\
                     5 25 0 5 - 13 2 4 0\n6 12 0 5 - 5 0 0 0\n7 1 0 6 - 6 0 0 0\n";
     assert_eq!(listing(&reader.read(b"a<b<c\n")), expected);
     assert_eq!(listing(&reader.read(b"a-1")), "no 14 1\n");
@@ -142,24 +144,57 @@ fn tokens_of_the_last_source() {
     assert_eq!(reader.tokens().last(), Some((49, 2, 2)));
 }
 
+/// Text and tree of an accepted source, without the rest of their areas.
+fn words_of(src: &[u8]) -> (Vec<u8>, Vec<u32>) {
+    let n = src.len();
+    let (mut tokens, mut text, mut tree) = (vec![0; token_words(n)], vec![0; text_bytes(n)], vec![0; tree_words(n)]);
+    let counts = parse_source(src, &mut tokens, &mut text, &mut tree).unwrap();
+    text.truncate(counts.text as usize);
+    tree.truncate(8 + 8 * counts.nodes as usize);
+    (text, tree)
+}
+
 #[test]
 fn words_that_are_no_tree() {
-    let src = b"a\n";
-    let (mut tokens, mut text, mut tree) = ([0u32; 9], [0u8; 2], [0u32; 48]);
-    let counts = parse_source(src, &mut tokens, &mut text, &mut tree).unwrap();
-    let words = &mut tree[..8 + 8 * counts.nodes as usize];
-    assert!(Tree::new(src, &[], words).is_ok());
-    for i in 0..words.len() {
-        let kept = words[i];
-        for other in [kept.wrapping_add(1), kept.wrapping_sub(1), NONE, 1000] {
-            words[i] = other;
-            if let Ok(tree) = Tree::new(src, &[], words) {
-                let _ = tree.listing();
-                tree.walk().for_each(|(_, n)| assert!(n.span().end <= src.len() && matches!(n.shape(), _)));
+    for src in [&b"a\n"[..], b"(0.10)\n"] {
+        let (text, mut words) = words_of(src);
+        assert!(Tree::new(src, &text, &words).is_ok());
+        for i in 0..words.len() {
+            let kept = words[i];
+            for other in [kept.wrapping_add(1), kept.wrapping_sub(1), NONE, 1000] {
+                words[i] = other;
+                if let Ok(tree) = Tree::new(src, &text, &words) {
+                    let _ = tree.listing();
+                    tree.walk().for_each(|(_, n)| assert!(n.span().end <= src.len() && matches!((n.shape(), n.spelling()), _)));
+                }
             }
+            words[i] = kept;
         }
-        words[i] = kept;
     }
+}
+
+#[test]
+fn words_of_another_version() {
+    let (text, mut words) = words_of(b"(0.10)");
+    for version in [0, 1, 3] {
+        words[0] = version;
+        assert_eq!(Tree::new(b"(0.10)", &text, &words).unwrap_err(), BadTree(None), "{version}");
+    }
+}
+
+#[test]
+fn one_version() {
+    let header = include_str!("../../../include/tarbucket.h");
+    let code = include_str!("../../../crates/reader/src/lib.rt");
+    let numbers = [number_behind(header, "#define TARBUCKET_VERSION "), number_behind(code, "pub const VERSION: u32 = ")];
+    assert_eq!(numbers, [VERSION; 2]);
+}
+
+/// The number right behind these words.
+fn number_behind(text: &str, words: &str) -> u32 {
+    let (_, behind) = text.split_once(words).unwrap_or_else(|| panic!("no {words}"));
+    let digits: String = behind.chars().take_while(char::is_ascii_digit).collect();
+    digits.parse().expect("a number")
 }
 
 /// The rounds of n bytes under 128.

@@ -1,5 +1,5 @@
 use crate::kind::{BinaryOp, Field, Kind, UnaryOp};
-use crate::NONE;
+use crate::{NONE, VERSION};
 use std::fmt::{self, Write};
 use std::ops::Range;
 
@@ -11,7 +11,7 @@ pub struct Tree<'a> {
     words: &'a [u32],
 }
 
-/// Words that are no tree: the first node that has a wrong field, or none where the header is wrong.
+/// Words that are no tree: the first node that has a wrong field, or none where the header is wrong or has another version.
 #[derive(Clone, Copy, Debug, PartialEq, Eq)]
 pub struct BadTree(pub Option<u32>);
 
@@ -19,7 +19,7 @@ impl fmt::Display for BadTree {
     fn fmt(&self, f: &mut fmt::Formatter<'_>) -> fmt::Result {
         match self.0 {
             Some(k) => write!(f, "node {k} has a wrong field"),
-            None => write!(f, "the header is wrong"),
+            None => write!(f, "the header is wrong, or of another version than {VERSION}"),
         }
     }
 }
@@ -35,7 +35,7 @@ impl<'a> Tree<'a> {
             return Err(BadTree(None));
         }
         let nodes = (words.len() / 8 - 1) as u32;
-        let header = [1, nodes, words[2], text.len() as u32, 8, nodes - 1, words[6], src.len() as u32];
+        let header = [VERSION, nodes, words[2], text.len() as u32, 8, nodes - 1, words[6], src.len() as u32];
         if words[..8] != header || words[8 * nodes as usize] != Kind::Program as u32 {
             return Err(BadTree(None));
         }
@@ -55,8 +55,9 @@ impl<'a> Tree<'a> {
             Field::Maybe | Field::List => x < k || x == NONE,
         });
         let words = match kind {
-            Kind::For | Kind::Def | Kind::Method | Kind::Class | Kind::Name | Kind::Variable => self.is_name(w[4], w[5]),
-            Kind::Attribute => self.is_name(w[5], w[6]),
+            Kind::For | Kind::Def | Kind::Method | Kind::Class | Kind::Name | Kind::Variable => self.is_span(w[4], w[5]),
+            Kind::Attribute => self.is_span(w[5], w[6]),
+            Kind::Float => self.is_span(w[6], w[7]),
             Kind::String => w[4] as usize + w[5] as usize <= self.text.len(),
             Kind::Bool => w[4] < 2,
             Kind::Unary => UnaryOp::of(w[4]).is_some(),
@@ -64,10 +65,10 @@ impl<'a> Tree<'a> {
             _ => true,
         };
         let next = w[3] == NONE || (k < w[3] && w[3] < self.len() as u32);
-        fields && words && next && self.is_name(w[1], w[2])
+        fields && words && next && self.is_span(w[1], w[2])
     }
 
-    fn is_name(&self, start: u32, end: u32) -> bool {
+    fn is_span(&self, start: u32, end: u32) -> bool {
         start <= end && end as usize <= self.src.len()
     }
 
@@ -95,7 +96,7 @@ impl<'a> Tree<'a> {
         self.text
     }
 
-    /// The header's eight words: 1, N, T, text bytes, 8, N - 1, rules opened, n.
+    /// The header's eight words: [`VERSION`], N, T, text bytes, 8, N - 1, rules opened, n.
     pub fn header(&self) -> &'a [u32] {
         &self.words[..8]
     }
@@ -206,7 +207,7 @@ impl<'a> Node<'a> {
         List { next: self.maybe(number).map(|n| (n, true)) }
     }
 
-    pub(crate) fn name(&self, start: u32, end: u32) -> &'a [u8] {
+    pub(crate) fn bytes(&self, start: u32, end: u32) -> &'a [u8] {
         &self.tree.src[start as usize..end as usize]
     }
 }
