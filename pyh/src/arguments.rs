@@ -26,9 +26,8 @@ pub struct Choice {
 /// The options that every command has, and `pyh` itself.
 pub const BOTH: [&str; 4] = ["--help", "--version", "-h", "-V"];
 
-/// What every help says of them, and of how it ends.
-pub const LISTED: &str = "\
-  -h, --help       prints this help
+/// What every help says of them, and of how it ends. No `\` stands before it: that would take the blanks too.
+pub const LISTED: &str = "  -h, --help       prints this help
   -V, --version    prints the version
   --               ends the options: all that follows is a name
 ";

@@ -27,8 +27,7 @@ a folder is followed where it is a PATH, and else skipped, with a note. A folder
 with no .pyh file below it counts as something that can't be read.
 ";
 
-const LISTED: &str = "\
-  --format text    for people, and what is done where no format is named: the
+const LISTED: &str = "  --format text    for people, and what is done where no format is named: the
                    line with a caret under the place, and a sentence
   --format short   for editors: FILE:LINE:COLUMN: NUMBER SENTENCE, a line for
                    each refusal; the totals go to standard error

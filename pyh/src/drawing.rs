@@ -7,7 +7,7 @@ use tarbucket::{List, Node, Shape, Tree};
 /// Lines are indented up to this depth, on a terminal no further than half its width; a deeper line says its depth.
 const DEEPEST: usize = 40;
 
-/// The longest string that is shown whole, in characters.
+/// The longest string or spelling of a Float that is shown whole, in characters.
 const LONGEST: usize = 60;
 
 enum Part<'a> {
@@ -78,6 +78,25 @@ fn string(bytes: &[u8]) -> String {
     }
 }
 
+/// A Float as it is written, and its value where that has another text.
+fn float(spelling: &[u8], value: f64) -> String {
+    let (spelling, value) = (plain(spelling), decimal(value));
+    match cut(&spelling, LONGEST) {
+        Some(front) => format!("Float {front}… ({value})"),
+        None if spelling == value => format!("Float {value}"),
+        None => format!("Float {spelling} ({value})"),
+    }
+}
+
+/// The fewest digits that have this value, those of CPython's repr, with `.0` before an exponent. A script may not admit them: 10.0e23 has 1.0e24.
+fn decimal(value: f64) -> String {
+    let text = format!("{value:?}");
+    match text.split_once('e') {
+        Some((digits, power)) if !digits.contains('.') => format!("{digits}.0e{power}"),
+        _ => text,
+    }
+}
+
 /// A node's own line, and its parts.
 fn describe<'a>(node: &Node<'a>) -> (String, Vec<Part<'a>>) {
     use Part::Node as One;
@@ -104,7 +123,7 @@ fn describe<'a>(node: &Node<'a>) -> (String, Vec<Part<'a>>) {
         Shape::Pair { key, value } => (kind.into(), vec![One("key", key), One("value", value)]),
         Shape::Bool(b) => (format!("Bool {}", if b { "True" } else { "False" }), vec![]),
         Shape::Int(n) => (format!("Int {n}"), vec![]),
-        Shape::Float(x) => (format!("Float {x:?}"), vec![]),
+        Shape::Float(value) => (float(node.spelling().expect("a Float has one"), value), vec![]),
         Shape::String(bytes) => (string(bytes), vec![]),
         Shape::Unary { operator, operand } => (format!("Unary {}", operator.symbol()), vec![One("", operand)]),
         Shape::Binary { operator, left, right } => (format!("Binary {}", operator.symbol()), vec![One("", left), One("", right)]),

@@ -5,6 +5,7 @@ import tempfile
 import traceback
 
 import carets
+import floats
 import known
 import streams
 import terminal
@@ -40,7 +41,7 @@ def main():
         for name in ("NO_COLOR", "COLUMNS"):
             os.environ.pop(name, None)
         os.environ.update(TERM="xterm-256color", LC_ALL="C.UTF-8")
-        for part in (transcripts, known, carets, streams, terminal):
+        for part in (transcripts, known, floats, carets, streams, terminal):
             work = os.path.join(folder, part.__name__)
             os.mkdir(work)
             try:
