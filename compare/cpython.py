@@ -27,7 +27,7 @@ import sys
 
 import python_cases
 from python_sources import sources
-from python_tree import KIND, KINDS, OPERATORS, Tree
+from python_tree import KIND, KINDS, OPERATORS, VERSION, Tree
 
 HERE = os.path.dirname(os.path.abspath(__file__))
 ROOT = os.path.dirname(HERE)
@@ -93,7 +93,7 @@ def difference(tree, answer, header, records, text):
     count = len(tree.records)
     if answer[:5] != (0, 0, tree.count, count, len(tree.text)):
         return f"answer {answer}, by CPython {tree.count} tokens, {count} nodes and {len(tree.text)} bytes of text"
-    if header != (1, count, tree.count, len(tree.text), 8, count - 1, answer[5], tree.size):
+    if header != (VERSION, count, tree.count, len(tree.text), 8, count - 1, answer[5], tree.size):
         return f"header {header}"
     for number, (ours, theirs) in enumerate(zip(records, tree.records)):
         if ours != theirs:

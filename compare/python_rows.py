@@ -1,4 +1,4 @@
-"""The sources that are not left to chance: every row of two and three operators, each sort of nesting, and names in other scripts."""
+"""The sources that are not left to chance: every row of two and three operators, each sort of nesting, names in other scripts, and spellings of Floats."""
 
 COMPARISONS = "== != < <= > >=".split()
 TERMS, FACTORS = "+ -".split(), "* / // %".split()
@@ -9,6 +9,9 @@ WIDE = (
     "é aé éa _é ñ1 ifé continueé continuée tt\xb7t α Ελλάδα αίθουσα_1 имя 한국 전시실1 名前 قاعة م٣ हॉल नाम ห้อง กำ שם "
     "e\u0301 \u1112\u1161\u11ab \ufb01 fi \uff49\uff46 \uff54 \uff41\uff11 \u2118 \u212a \u2126 \xb5 \u2160 l\xb7l a\u0387 x\u203fy \U00010300 \U0001d431\U0001d7d9 \U0002a6d6"
 ).split()
+
+# Spellings of Floats, more than one for a value. The last has m at 2^53.
+FLOATS = "0.10 0.1 00.100 1.50 0.0 007.0 100.000 1.0e5 1.0E+05 2.50e-3 0.10E0 900719925474099.2".split()
 
 
 def systematic():
@@ -63,11 +66,23 @@ def wide():
             yield form.format(name, WIDE[(i + k + 1) % len(WIDE)])
 
 
+def floats():
+    """Each spelling with no parentheses around it, with some, beside names of more bytes than characters, and in each sort of node that holds an E."""
+    forms = [
+        "{0}\n", "({0})\n", "( ( ({0})) )\n", "x = ({0})\n", "({0}).real = {1}\n", "[{0}, ({1})]\n", "({0}, (({1})),)\n", "{{({0}), {1}}}\n",
+        "{{({0}): {1}, {2}: ({1})}}\n", "{0} < ({1}) < {2}\n", "({0} < (({1})) < ({2}) <= {0})\n", "f({0}, ({1}))\n", "a[({0})]\n", "- ({0}) + {1} * ({2})\n",
+        "lambda: ({0})\n", "return ({0}), {1}\n", "한국 = (({0})); é.αβ(({1}), 'é한', {2})\n", "if ({0}):\n  é = ({1}) # 한\nelif {2}: ({0})\nelse: ({1})\n",
+    ]
+    for i, spelling in enumerate(FLOATS):
+        for k, form in enumerate(forms):
+            yield form.format(spelling, FLOATS[(i + k + 1) % len(FLOATS)], FLOATS[(i + 2 * k + 5) % len(FLOATS)])
+
+
 def long_ones():
-    """Sources of 65,536 bytes, the most that 01 takes: lines, a list, a string, a call, a chain, a row of `or`, and names in other scripts."""
+    """Sources of 65,536 bytes, the most that 01 takes: lines, a list, a string, a call, a chain, a row of `or`, names in other scripts, and Floats."""
     for first, part, last in (
         ("", "a = b[-1] + 2.5 # x\n", ""), ("[", "a,", "]"), ("'", "\\n\\d\"é", "'"), ("f(", "(a), ", ")"), ("a", " < a", ""), ("a", " or a", ""),
-        ("", "if a:\n  b\nelif c: d; e\nelse:\n  pass\n", ""), ("", "é.한국 = ﬁ(x·1)\n", ""),
+        ("", "if a:\n  b\nelif c: d; e\nelse:\n  pass\n", ""), ("", "é.한국 = ﬁ(x·1)\n", ""), ("[", "(0.10), 1.50, ", "]"),
     ):
         room = 65536 - len((first + last).encode()) - 1
         text = first + part * (room // len(part.encode())) + last

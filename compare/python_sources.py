@@ -7,7 +7,7 @@ Python refuses, empty bodies, blank lines where they are refused, classes of oth
 """
 import random
 
-from python_rows import COMPARISONS, FACTORS, TERMS, WIDE, long_ones, nested, systematic, wide
+from python_rows import COMPARISONS, FACTORS, TERMS, WIDE, floats, long_ones, nested, systematic, wide
 
 NAMES = (
     "a b c x y i n t t self _ __init__ total node_5 e5 E r1 If classes not_ nota true none None_ print match case type or_else "
@@ -272,7 +272,7 @@ class Source:
 def sources(count, seed):
     """Those of python_rows.py, and then random ones."""
     made = 0
-    for text in [*systematic(), *nested(), *wide(), *long_ones()]:
+    for text in [*systematic(), *nested(), *wide(), *floats(), *long_ones()]:
         if made < count:
             yield text
             made += 1

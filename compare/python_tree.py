@@ -9,21 +9,20 @@ operators, the order "a node is written when its last part is read", and these s
 - "Int: optional sign, digits": a sign that touches digits is the Int's own
 
 Names are places in the source. CPython's nodes have them normalised to NFKC, which 02 departs from (change 1), so a name's bytes are taken from the source at
-the node's place, and only asked to normalise to what the node has. The `tokenize` of Python 3.10 and 3.11 does not know all characters of names, so it is given
-the source with a letter for each character over 127; `ast` reads the source as it is, and each of its places must be that of a token.
+the node's place, and only asked to normalise to what the node has. A Float's r and s (02, change 3) are the columns of CPython's own Constant, which no
+parentheses widen; whether an Assign widens them is not compared, since Python refuses a literal as a target.
 
 It shares nothing with tools/reference and knows no other departure of 01: `python_sources.py` writes none.
 """
 import ast
-import collections
-import io
-import re
 import struct
-import tokenize
-import unicodedata
 import warnings
 
+from python_tokens import Tokens
+
 NONE = 4294967295
+# "The header's version becomes 2" (02, change 3)
+VERSION = 2
 
 KINDS = (
     "Program If While For Def Return Assign Class Break Continue Pass Expr Method Elif Else Name Pair Bool Int String Float None "
@@ -38,74 +37,18 @@ BINARY = {
 }
 OPERATORS = "+ - * / // % == != < <= > >= and or".split()
 
-MARKS = {tokenize.NEWLINE: "NEWLINE", tokenize.INDENT: "INDENT", tokenize.DEDENT: "DEDENT"}
 
-
-Token = collections.namedtuple("Token", "word start end")
-
-
-class Tree:
-    """`records`, the N lists of 8 words, `text`, the decoded strings, and `count`, the tokens without Eof."""
+class Tree(Tokens):
+    """`records`, the N lists of 8 words, and `text`, the decoded strings, beside the tokens."""
 
     def __init__(self, source):
-        self.lines = [line + "\n" for line in source.split("\n")]
-        self.begins = [0]
-        for line in self.lines:
-            self.begins.append(self.begins[-1] + len(line.encode()))
-        self.bytes = source.encode()
-        self.size = len(self.bytes)
-        self.records, self.text, self.noted = [], b"", collections.Counter()
         with warnings.catch_warnings():
             warnings.simplefilter("ignore")
             module = ast.parse(source)
-        self.read_tokens(source)
+        super().__init__(source)
+        self.records, self.text = [], b""
         first, _, _ = self.statements(module.body, 0)
         self.node("Program", 0, self.size, first)
-
-    def read_tokens(self, source):
-        self.tokens, self.first, self.last, self.closer, self.count = [], {}, {}, {}, 0
-        opened = []
-        for token in tokenize.generate_tokens(io.StringIO(re.sub(r"[^\0-\x7f]", "x", source)).readline):
-            self.noted["comments"] += token.type == tokenize.COMMENT
-            if token.type == tokenize.COMMENT or not (token.string or token.type == tokenize.DEDENT):
-                continue  # without text: the end, and a Newline that only CPython implies
-            self.count += 1
-            if token.type == tokenize.NL:
-                continue
-            word = MARKS.get(token.type, token.string)
-            at = len(self.tokens)
-            self.tokens.append(Token(word, self.place(*token.start), self.place(*token.end)))
-            if token.type not in MARKS:
-                self.first[self.tokens[at].start] = at
-                self.last[self.tokens[at].end] = at
-            if token.type == tokenize.OP and word in "([{":
-                opened.append(at)
-            if token.type == tokenize.OP and word in ")]}":
-                self.closer[opened.pop()] = at
-
-    def place(self, row, column):
-        """The byte of a token's place, which counts characters."""
-        if row > len(self.lines):
-            return self.size
-        return self.begins[row - 1] + len(self.lines[row - 1][:column].encode())
-
-    def range_of(self, node):
-        """The first and the last token of a node, by CPython."""
-        start = self.begins[node.lineno - 1] + node.col_offset
-        end = self.begins[node.end_lineno - 1] + node.end_col_offset
-        return self.first[start], self.last[end]
-
-    def word(self, at):
-        return self.tokens[at].word if at < len(self.tokens) else None
-
-    def name(self, at, given):
-        """Start and end of a name in the source; `given` is what CPython's node has for it."""
-        start, end = self.tokens[at].start, self.tokens[at].end
-        spelt = self.bytes[start:end].decode()
-        assert unicodedata.normalize("NFKC", spelt) == given, (spelt, given)
-        self.noted["names with characters over 127"] += not spelt.isascii()
-        self.noted["names that NFKC changes"] += spelt != given
-        return start, end
 
     def node(self, kind, start, end, *fields):
         self.records.append([KIND[kind], start, end, NONE, *fields, *[0] * (4 - len(fields))])
@@ -127,6 +70,7 @@ class Tree:
             self.noted["parentheses"] += 1
         span = self.tokens[first].start, self.tokens[last].end
         number = getattr(self, "read_" + type(node).__name__)(node, i, j)
+        self.noted["Floats in parentheses"] += first < i and self.records[number][0] == KIND["Float"]
         self.records[number][1:3] = span
         return number
 
@@ -155,7 +99,7 @@ class Tree:
         if isinstance(value, int):
             return self.integer(value)
         if isinstance(value, float):
-            return self.node("Float", 0, 0, *struct.unpack("<II", struct.pack("<d", value)))
+            return self.node("Float", 0, 0, *struct.unpack("<II", struct.pack("<d", value)), *self.places(node))
         data = value.encode()
         self.noted["strings with a backslash"] += "\\" in self.word(i)
         self.text += data

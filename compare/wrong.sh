@@ -43,6 +43,16 @@ wrong "a name cut at the first character beyond ASCII" name.rs 's/|c| !continues
 wrong "9 one byte late at a character beyond ASCII" scan.rs \
     's/Refused { number, place: self.at as u32 }/Refused { number, place: (self.at + usize::from(!rest.as_bytes()[0].is_ascii())) as u32 }/'
 wrong "m below 2^53" literal.rs 's/m > 1 << 53/m >= 1 << 53/'
+wrong "a Float with no r and s" layout.rs 's/token.start, token.end/0, 0/'
+wrong "a Float with its token's length in s" layout.rs 's/token.start, token.end/token.start, token.end - token.start/'
+wrong "an Int with its token's places in r and s" layout.rs 's/(kind::INT, \[p, q, 0, 0\])/(kind::INT, [p, q, expr.span.start, expr.span.end])/'
+wrong "a Float's r and s widened by parentheses" descent/expression.rs \
+    's/return Ok(Expr { span: self.span_from(start), kind: first.kind })/let (span, mut kind) = (self.span_from(start), first.kind); if let ExprKind::Float(_, token) = \&mut kind { *token = span; } return Ok(Expr { span, kind })/'
+wrong "a Float's r and s widened by the assignment" descent/statement.rs \
+    's/target.span = self.span_from(start);/& if let crate::tree::ExprKind::Float(_, token) = \&mut target.kind { *token = target.span; }/'
+wrong "the places of the token before a Float" descent/expression.rs \
+    's/ExprKind::Float(.*Span { start, end: token.end })/{ let before = self.tokens[self.at.max(2) - 2]; ExprKind::Float(f64::from_bits(token.value), Span { start: before.start, end: before.end }) }/'
+wrong "the header's version 1" words.rs 's/VERSION: u32 = 2/VERSION: u32 = 1/'
 wrong "the tree not zeroed" lib.rs 's/ tree.fill(0);//'
 wrong "areas zeroed by 5" lib.rs 's/if matches!(parsed, Err(Answer { number: 5, .. }))/if false/'
 wrong "a word written behind the tokens" lib.rs 's/ tokens.fill(0);/& unsafe { *tokens.as_mut_ptr().add(token_area) = 5; }/'

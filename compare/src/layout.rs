@@ -18,8 +18,9 @@ pub fn lay_out(program: &[Stmt], n: u32) -> Layout {
     out
 }
 
-fn halves(bits: u64) -> [u32; 4] {
-    [bits as u32, (bits >> 32) as u32, 0, 0]
+/// The low half and the high half of 64 bits.
+fn halves(bits: u64) -> [u32; 2] {
+    [bits as u32, (bits >> 32) as u32]
 }
 
 impl Layout {
@@ -55,8 +56,14 @@ impl Layout {
     fn expr(&mut self, expr: &Expr) -> u32 {
         let (kind, words) = match &expr.kind {
             ExprKind::Bool(value) => (kind::BOOL, [u32::from(*value), 0, 0, 0]),
-            ExprKind::Int(value) => (kind::INT, halves(*value as u64)),
-            ExprKind::Float(value) => (kind::FLOAT, halves(value.to_bits())),
+            ExprKind::Int(value) => {
+                let [p, q] = halves(*value as u64);
+                (kind::INT, [p, q, 0, 0])
+            }
+            ExprKind::Float(value, token) => {
+                let [p, q] = halves(value.to_bits());
+                (kind::FLOAT, [p, q, token.start, token.end])
+            }
             ExprKind::Str(bytes) => (kind::STRING, self.string(bytes)),
             ExprKind::None => (kind::NONE, [0; 4]),
             ExprKind::Variable(name) => (kind::VARIABLE, [name.start, name.end, 0, 0]),

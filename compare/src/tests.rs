@@ -1,11 +1,11 @@
-//! 01's "Scripts and their outcome" and 02's names, read both ways; the classes of characters.
+//! 01's "Scripts and their outcome", 02's names and Floats, read both ways; the classes of characters.
 
 use crate::classes::{BEGIN, CONTINUE};
 use crate::name::{begins, continues, within};
 use crate::token::Kind;
 use crate::trial::{try_program, Verdict};
 use crate::utf8::{check, Checked};
-use crate::words::kind;
+use crate::words::{kind, Record};
 use crate::{parse, print, scan, Answer};
 
 fn refusal(src: &str) -> (u32, u32) {
@@ -17,14 +17,18 @@ fn refusal(src: &str) -> (u32, u32) {
     (answer.number, answer.place)
 }
 
-/// The kinds of the nodes in the order of writing.
-fn kinds(src: &str) -> Vec<u32> {
+/// The nodes in the order of writing.
+fn nodes(src: &str) -> Vec<Record> {
     let tokens = scan::scan(src).unwrap();
     let script = parse(src.as_bytes()).ok().expect("accepted");
     let layout = crate::layout::lay_out(&script.program, src.len() as u32);
     let Verdict::Accepted { nodes, text } = try_program(src.as_bytes(), &tokens, 1 << 30) else { panic!("{src:?}") };
     assert_eq!((&nodes, &text), (&layout.nodes, &layout.text), "{src:?}");
-    nodes.iter().map(|record| record[0]).collect()
+    nodes
+}
+
+fn kinds(src: &str) -> Vec<u32> {
+    nodes(src).iter().map(|record| record[0]).collect()
 }
 
 #[test]
@@ -71,12 +75,51 @@ fn areas_and_printing() {
     let mut tree = [7; 17];
     let answer = crate::read(b"", &mut [9; 3], &mut [], &mut tree);
     assert_eq!(answer, Answer { nodes: 1, openings: 1, ..Answer::default() });
-    assert_eq!(tree, [1, 1, 0, 0, 8, 0, 1, 0, 1, 0, 0, crate::words::NONE, crate::words::NONE, 0, 0, 0, 7]);
+    assert_eq!(tree, [2, 1, 0, 0, 8, 0, 1, 0, 1, 0, 0, crate::words::NONE, crate::words::NONE, 0, 0, 0, 7]);
     assert_eq!(print(b"()"), "no 14 2\n");
     assert_eq!(print(&[b' '; 1024]), "no 1 0\n");
-    let chain = "1 8 6 0 8 7 19 6\n0 23 0 1 - 0 1 0 0\n1 23 2 3 - 2 3 0 0\n2 25 0 3 - 9 0 1 0\n3 23 4 5 - 4 5 0 0\n\
+    let chain = "2 8 6 0 8 7 19 6\n0 23 0 1 - 0 1 0 0\n1 23 2 3 - 2 3 0 0\n2 25 0 3 - 9 0 1 0\n3 23 4 5 - 4 5 0 0\n\
                  4 25 2 5 - 9 1 3 0\n5 25 0 5 - 13 2 4 0\n6 12 0 5 - 5 0 0 0\n7 1 0 6 - 6 0 0 0\n";
     assert_eq!(print(b"a<b<c\n"), chain);
+    // 0.1 is 3fb99999 9999999a.
+    let float = "2 3 3 0 8 2 19 6\n0 21 0 6 - 2576980378 1069128089 1 5\n1 12 0 6 - 0 0 0 0\n2 1 0 6 - 1 0 0 0\n";
+    assert_eq!(print(b"(0.10)"), float);
+}
+
+/// 02, change 3: "A Float record carries in r and s the start and end of its token, which differ from the node's span in
+/// parentheses or as an Assign target."
+#[test]
+fn floats_keep_their_spelling() {
+    // Of each Float: start, end, r, s.
+    let cases: [(&str, &[[u32; 4]]); 19] = [
+        ("0.10", &[[0, 4, 0, 4]]),
+        ("(0.10)", &[[0, 6, 1, 5]]),
+        ("((0.10))", &[[0, 8, 2, 6]]),
+        ("( ( 0.10) )", &[[0, 11, 4, 8]]),
+        ("0.10 = 1.50", &[[0, 11, 0, 4], [7, 11, 7, 11]]),
+        ("(0.10) = 1", &[[0, 10, 1, 5]]),
+        ("((0.10)) = (1.50)", &[[0, 17, 2, 6], [11, 17, 12, 16]]),
+        ("0.10, = 1.50,", &[[0, 13, 0, 4], [8, 12, 8, 12]]),
+        ("0.10, (1.50) = a", &[[0, 4, 0, 4], [6, 12, 7, 11]]),
+        ("a; 0.10=1; 1.50", &[[3, 9, 3, 7], [11, 15, 11, 15]]),
+        ("[0.10, (1.50)]", &[[1, 5, 1, 5], [7, 13, 8, 12]]),
+        ("{(0.10): 1.50}", &[[1, 7, 2, 6], [9, 13, 9, 13]]),
+        ("0.10 < (1.50) < 2.0e1", &[[0, 4, 0, 4], [7, 13, 8, 12], [16, 21, 16, 21]]),
+        ("f(0.10, (1.50))", &[[2, 6, 2, 6], [8, 14, 9, 13]]),
+        ("(0.10).a = -(1.50)", &[[0, 6, 1, 5], [12, 18, 13, 17]]),
+        ("lambda: (0.10)", &[[8, 14, 9, 13]]),
+        ("return (0.10)", &[[7, 13, 8, 12]]),
+        ("if (0.10): 1.50 = 2.5\n", &[[3, 9, 4, 8], [11, 21, 11, 15], [18, 21, 18, 21]]),
+        ("\u{e9}((0.10))", &[[3, 9, 4, 8]]),
+    ];
+    let of_float = |&[number, start, end, _, _, _, r, s]: &Record| (number == kind::FLOAT).then_some([start, end, r, s]);
+    for (src, floats) in cases {
+        assert_eq!(nodes(src).iter().filter_map(of_float).collect::<Vec<_>>(), floats, "{src:?}");
+    }
+    // "Unused words are 0": no other literal has its token's places.
+    for src in ["(1) = ('s')", "(True) = (None)", "(-7) = [(1), (None)]"] {
+        assert!(nodes(src).iter().all(|&[.., r, s]| [r, s] == [0, 0]), "{src:?}");
+    }
 }
 
 /// The tokens of a text, each with its bytes.

@@ -38,13 +38,14 @@ pub struct Expr {
     pub kind: ExprKind,
 }
 
-/// A name is its span in the source. A Chain has two comparisons or more: `a<b<c` is And(a<b, b<c) in the words.
+/// A name is its span in the source. A Float has its token's span beside its value, which stays where the node's grows. A Chain
+/// has two comparisons or more: `a<b<c` is And(a<b, b<c) in the words.
 #[derive(Debug)]
 pub enum ExprKind {
     Bool(bool),
     Int(i64),
     Str(Vec<u8>),
-    Float(f64),
+    Float(f64, Span),
     None,
     Variable(Span),
     Unary(UnaryOp, Box<Expr>),

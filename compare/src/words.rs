@@ -11,6 +11,9 @@ pub const NEXT: usize = 3;
 /// Words of the header before the first record.
 pub const HEADER: usize = 8;
 
+/// The header's version: 2 since a Float has its token's start and end in r and s (02, change 3).
+pub const VERSION: u32 = 2;
+
 pub mod kind {
     pub const PROGRAM: u32 = 1;
     pub const IF: u32 = 2;

@@ -213,7 +213,7 @@ impl Descent<'_> {
             Kind::None => ExprKind::None,
             Kind::Bool => ExprKind::Bool(token.value == 1),
             Kind::Int => ExprKind::Int(token.value as i64),
-            Kind::Float => ExprKind::Float(f64::from_bits(token.value)),
+            Kind::Float => ExprKind::Float(f64::from_bits(token.value), Span { start, end: token.end }),
             Kind::Str => ExprKind::Str(literal::decode(&self.src[start as usize + 1..token.end as usize - 1])),
             Kind::Name if self.kind() == Kind::LBrace && &self.src[start as usize..token.end as usize] == b"t" => {
                 self.take();

@@ -1,7 +1,7 @@
 //! What was compared, in numbers.
 
 use crate::generate::CLASSES;
-use crate::sides::{Made, Tried, NEVER};
+use crate::sides::{Has, Made, Tried, NEVER};
 use plain::utf8::Checked;
 
 #[derive(Clone, Copy, Default)]
@@ -13,6 +13,9 @@ struct Row {
     numbers: [u64; 15],
     /// Those accepted that have a name with a character beyond ASCII.
     named: u64,
+    /// Those accepted that have a Float in parentheses, and those that have one as a target.
+    grouped: u64,
+    targets: u64,
     /// Those refused by 9 at a character beyond ASCII.
     stray: u64,
     unanswered: u64,
@@ -62,7 +65,7 @@ impl Figures {
         self.checks.alone += 1;
     }
 
-    pub fn count(&mut self, class: usize, src: &[u8], made: Made, named: bool) {
+    pub fn count(&mut self, class: usize, src: &[u8], made: Made, has: Has) {
         let Made { answer, checked, tried } = made;
         self.checks.count(checked);
         let row = &mut self.rows[class];
@@ -73,7 +76,9 @@ impl Figures {
             Some(answer) => row.numbers[answer.number as usize] += 1,
             None => row.unanswered += 1,
         }
-        row.named += u64::from(named);
+        row.named += u64::from(has.wide_name);
+        row.grouped += u64::from(has.float_in_parentheses);
+        row.targets += u64::from(has.float_target);
         row.stray += u64::from(answer.is_some_and(|answer| answer.number == 9 && !src[answer.place as usize].is_ascii()));
         row.alike += u64::from(tried == Tried::Alike);
         row.spent += u64::from(tried == Tried::Spent);
@@ -86,6 +91,8 @@ impl Figures {
             total.bytes += row.bytes;
             total.ascii += row.ascii;
             total.named += row.named;
+            total.grouped += row.grouped;
+            total.targets += row.targets;
             total.stray += row.stray;
             total.unanswered += row.unanswered;
             total.alike += row.alike;
@@ -99,19 +106,21 @@ impl Figures {
 
     pub fn print(&self, seconds: f64, differences: u32) {
         println!(
-            "{:<12} {:>10} {:>12} {:>10} {:>10} {:>10} {:>10} {:>10} {:>10} {:>9} {:>7}",
-            "class", "inputs", "bytes", "ASCII", "accepted", "named", "1-11", "9 wide", "13", "14", "-"
+            "{:<12} {:>10} {:>12} {:>10} {:>10} {:>10} {:>9} {:>9} {:>10} {:>10} {:>10} {:>9} {:>7}",
+            "class", "inputs", "bytes", "ASCII", "accepted", "named", "(Float)", "Float=", "1-11", "9 wide", "13", "14", "-"
         );
         let total = self.total();
         for (name, row) in CLASSES.iter().map(|class| class.name).zip(&self.rows).chain([("all", &total)]) {
             let lexical: u64 = row.numbers[1..=11].iter().sum();
             println!(
-                "{name:<12} {:>10} {:>12} {:>10} {:>10} {:>10} {lexical:>10} {:>10} {:>10} {:>9} {:>7}",
+                "{name:<12} {:>10} {:>12} {:>10} {:>10} {:>10} {:>9} {:>9} {lexical:>10} {:>10} {:>10} {:>9} {:>7}",
                 row.inputs,
                 row.bytes,
                 row.ascii,
                 row.numbers[0],
                 row.named,
+                row.grouped,
+                row.targets,
                 row.stray,
                 row.numbers[13],
                 row.numbers[14],
@@ -120,6 +129,7 @@ impl Figures {
         }
         println!("ASCII only: {}", total.ascii);
         println!("accepted {}, with a name beyond ASCII: {}", total.numbers[0], total.named);
+        println!("of these with a Float in parentheses: {}, as a target: {}", total.grouped, total.targets);
         println!("refused by 9 at a character beyond ASCII: {}", total.stray);
         for (number, count) in total.numbers.iter().enumerate().filter(|&(number, _)| number != 0 && number != NEVER as usize) {
             println!("refused by {number:>2}: {count}");

@@ -132,8 +132,8 @@ fn run(limits: &Limits) -> ExitCode {
         });
         match compared {
             Ok(made) => {
-                let named = made.answer.is_some_and(|answer| sides.wide_name(&case.src, answer));
-                figures.count(class, &case.src, made, named);
+                let has = made.answer.map(|answer| sides.has(&case.src, answer)).unwrap_or_default();
+                figures.count(class, &case.src, made, has);
             }
             Err(difference) => return found(&mut sides, case, difference, &figures, begun),
         }

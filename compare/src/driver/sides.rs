@@ -4,6 +4,7 @@ use crate::check::{Checks, WORDS};
 use plain::token::Kind;
 use plain::trial::{try_program, Verdict};
 use plain::utf8::Checked;
+use plain::words::{kind, HEADER};
 use plain::{areas, Answer};
 use std::panic::{catch_unwind, AssertUnwindSafe};
 
@@ -112,6 +113,17 @@ pub struct Made {
     pub tried: Tried,
 }
 
+/// What is counted of the accepted sources.
+#[derive(Default)]
+pub struct Has {
+    /// A name with a character beyond ASCII.
+    pub wide_name: bool,
+    /// A Float whose node begins before its token: the parentheses' span is wider. The Assign's is on its right only.
+    pub float_in_parentheses: bool,
+    /// A Float that is an Assign's target.
+    pub float_target: bool,
+}
+
 /// How the ordered trial was compared with the descent.
 #[derive(Clone, Copy, PartialEq, Eq)]
 pub enum Tried {
@@ -207,11 +219,21 @@ impl Sides {
         self.alike([self.plain.tokens.len(), self.plain.text.len(), self.plain.tree.len()])
     }
 
-    /// Whether a source is accepted and has a name with a character beyond ASCII.
-    pub fn wide_name(&self, src: &[u8], answer: Answer) -> bool {
-        let tokens = self.library.tokens.chunks_exact(3).take(answer.tokens as usize);
+    /// What a source has, if it is accepted, by the library's own tokens and records.
+    pub fn has(&self, src: &[u8], answer: Answer) -> Has {
+        if answer.number != 0 {
+            return Has::default();
+        }
+        let mut tokens = self.library.tokens.chunks_exact(3).take(answer.tokens as usize);
         let wide = |token: &[u32]| token[0] == Kind::Name as u32 && !src[token[1] as usize..token[2] as usize].is_ascii();
-        answer.number == 0 && tokens.into_iter().any(wide)
+        let records = &self.library.tree[HEADER..HEADER + 8 * answer.nodes as usize];
+        let record = |node: u32| &records[8 * node as usize..][..8];
+        let target = |assign: &[u32]| assign[0] == kind::ASSIGN && record(assign[4])[0] == kind::FLOAT;
+        Has {
+            wide_name: tokens.any(wide),
+            float_in_parentheses: records.chunks_exact(8).any(|node| node[0] == kind::FLOAT && node[1] != node[6]),
+            float_target: records.chunks_exact(8).any(target),
+        }
     }
 
     /// The ordered trial is set beside the descent where that has read the tokens to an end or to a 14.

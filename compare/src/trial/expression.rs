@@ -166,6 +166,9 @@ impl Trial<'_> {
             words = [self.text.len() as u32, decoded.len() as u32, 0, 0];
             self.text.extend(decoded);
         }
+        if kind == kind::FLOAT {
+            [words[2], words[3]] = [token.start, token.end];
+        }
         Some(self.node(kind, first, words))
     }
 

@@ -36,7 +36,7 @@ pub fn nested(random: &mut Random) -> Vec<u8> {
     }
     src.extend(vec![b' '; 2 * blocks]);
     if random.once_in(4) {
-        src.extend(random.pick(&["if a: ", "a = ", "return ", "a; b, ", "for a in "]).bytes());
+        src.extend(random.pick(&["if a: ", "a = ", "0.10 = ", "return ", "a; b, ", "for a in "]).bytes());
     }
     expression(random, &mut src, total - blocks);
     if !random.once_in(4) {
@@ -59,7 +59,7 @@ fn expression(random: &mut Random, src: &mut Vec<u8>, depth: usize) {
         let row = random.pick(&ROWS);
         src.extend(row.repeat(random.below(12)).bytes());
     }
-    const LEAVES: [&str; 13] = ["a", "a", "a", "1", "'s'", "()", "())", "[]", "{}", ")", "", "a b", "lambda: a"];
+    const LEAVES: [&str; 14] = ["a", "a", "a", "1", "0.10", "'s'", "()", "())", "[]", "{}", ")", "", "a b", "lambda: a"];
     const WIDE: [&str; 4] = ["\u{ac00}", "a\u{301}<\u{10400}", "if\u{e9}", "\u{b7}"];
     src.extend(if random.once_in(12) { random.pick(&WIDE) } else { random.pick(&LEAVES) }.bytes());
     if random.once_in(5) {

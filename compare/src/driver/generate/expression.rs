@@ -77,7 +77,12 @@ impl Writer<'_> {
                 self.put(")");
             }
             6 => self.put_one_of(&["())", "{}", "[]", "t{}"]),
-            7..=10 => self.literal(),
+            7..=9 => self.literal(),
+            10 => {
+                self.put("(");
+                self.literal();
+                self.put(")");
+            }
             _ => self.name(),
         }
     }
@@ -88,10 +93,10 @@ impl Writer<'_> {
         self.put(closer);
     }
 
-    fn literal(&mut self) {
+    pub fn literal(&mut self) {
         #[rustfmt::skip]
         let literals = [
-            "0", "1", "42", "9223372036854775807", "1.5", "0.25e2", "3.0E-3", "None", "True", "False", "'s'", "\"two words\"", "'\\n\\'\\q'",
+            "0", "1", "42", "9223372036854775807", "1.5", "0.10", "0.25e2", "3.0E-3", "None", "True", "False", "'s'", "\"two words\"", "'\\n\\'\\q'",
             "\"\u{e9}\u{20ac}\"", "''", "'a\nb'",
         ];
         self.put_one_of(&literals);

@@ -46,9 +46,9 @@ const TELLING: &[u8] =
 
 /// Pieces that each do something in the grammar.
 #[rustfmt::skip]
-const PIECES: [&str; 34] = [
-    "a ", "t ", "1 ", "'s' ", "not ", "- ", "lambda ", "or ", "< ", "+ ", "* ", "= ", "( ", ") ", "[ ", "] ", "{ ", "} ", ": ", ", ", "; ", ". ",
-    "\n", "\n  ", "if ", "elif ", "else ", "def ", "class ", "for ", "in ", "while ", "return ", "pass ",
+const PIECES: [&str; 35] = [
+    "a ", "t ", "1 ", "0.10 ", "'s' ", "not ", "- ", "lambda ", "or ", "< ", "+ ", "* ", "= ", "( ", ") ", "[ ", "] ", "{ ", "} ", ": ", ", ", "; ",
+    ". ", "\n", "\n  ", "if ", "elif ", "else ", "def ", "class ", "for ", "in ", "while ", "return ", "pass ",
 ];
 
 pub struct Generator {

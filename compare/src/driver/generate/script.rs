@@ -133,7 +133,11 @@ impl Writer<'_> {
                 self.t();
             }
             4 | 5 => {
-                self.t();
+                if self.random.once_in(8) {
+                    self.literal();
+                } else {
+                    self.t();
+                }
                 self.put("=");
                 self.t();
             }

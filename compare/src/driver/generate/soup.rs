@@ -114,21 +114,26 @@ pub fn lines(random: &mut Random) -> Vec<u8> {
     src
 }
 
-/// A literal or two at the borders of what is admitted.
+/// A literal or two at the borders of what is admitted, some in parentheses, some with another assigned to them.
 pub fn literals(random: &mut Random) -> Vec<u8> {
+    const BETWEEN: [&str; 8] = ["=", " = ", ", =", ",", ", ", "", ";", "\n"];
+    const AT_THE_END: [&str; 5] = [",", ", ", "", ";", "\n"];
     let wide = random.once_in(8);
     let mut src = Vec::new();
-    for _ in 0..random.between(1, 3) {
+    for left in (0..random.between(1, 3)).rev() {
+        let around = if random.once_in(3) { random.between(1, 3) } else { 0 };
+        src.extend((0..around).flat_map(|_| random.pick(&["(", "(", "( "]).bytes()));
         match random.below(4) {
             0 => int(random, &mut src),
             1 | 2 => float(random, &mut src),
             _ => string(random, &mut src),
         }
+        src.extend((0..around).flat_map(|_| random.pick(&[")", ")", " )"]).bytes()));
         if wide {
             src.extend(random.pick(&["", "", ".", "e", "\n"]).bytes());
             src.extend(wide::word(random).bytes());
         }
-        src.extend(random.pick(&[",", ", ", "", ";", "\n"]).bytes());
+        src.extend(if left == 0 { random.pick(&AT_THE_END) } else { random.pick(&BETWEEN) }.bytes());
     }
     src
 }
