@@ -18,13 +18,13 @@ wrote {n = n} {answer = answer} answer₀ e w = subst (λ (x : Answer). (n ≡ n
 
 pub no-room : (src tokens text tree answer : List ℕ) → length answer < 6 → Called src 4294967295 tokens text tree answer tokens text tree answer
 no-room src tokens text tree answer h =
-    let e : few answer ≡ true = lt-ltb _ _ h in
+    let e : few 6 answer ≡ true = lt-ltb _ _ h in
     record { returned = rw e refl; answer-is = rw e refl; tokens-are = rw e refl; text-is = rw e refl; tree-is = rw e refl }
 
 pub answered : (src tokens₀ text₀ tree₀ answer₀ tokens text tree answer : List ℕ) (r : Answer) (n : ℕ) → 6 ≤ length answer₀ → Reads src r tokens₀ text₀ tree₀ tokens text tree
     → n ≡ numbersOf r .number → answer ≡ words (numbersOf r) ++ drop 6 answer₀ → Called src n tokens₀ text₀ tree₀ answer₀ tokens text tree answer
 answered src tokens₀ text₀ tree₀ answer₀ tokens text tree answer r n h a e w =
-    let f : few answer₀ ≡ false = le-ltb _ _ h in
+    let f : few 6 answer₀ ≡ false = le-ltb _ _ h in
     record {
       returned = rw f (e ∙ ap (λ (x : Numbers). x .number) (a .numbers));
       answer-is = rw f (w ∙ ap (λ (x : Numbers). words x ++ drop 6 answer₀) (a .numbers));

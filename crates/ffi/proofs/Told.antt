@@ -9,11 +9,12 @@ use borrow.Author.Tests.{lt-ltb, le-ltb}
 use lib.ListN.{length, set, drop}
 use Rattle.utf8.specs.Table.{utf8Error, rounds}
 use Rattle.utf8.specs.declared.Utf8.{Utf8}
-use Rattle.ffi.specs.Checks.{number, place, few, Checks}
+use Rattle.ffi.specs.Called.{few}
+use Rattle.ffi.specs.Checks.{number, place, Checks}
 
 pub no-words : (src answer : List ℕ) → length answer < 2 → Checks src 4294967295 answer answer
 no-words src answer h =
-    let e : few answer ≡ true = lt-ltb _ _ h in
+    let e : few 2 answer ≡ true = lt-ltb _ _ h in
     record { returned = rw e refl; answer-is = rw e refl }
 
 -- the second word is stored first
@@ -26,7 +27,7 @@ stores (x ∷ y ∷ l) a b h = refl
 pub told : (src answer : List ℕ) (k : ℕ) {u : Utf8} (v : Utf8) → 2 ≤ length answer → u ≡ utf8Error src → u ≡ v → k ≡ rounds src
     → Checks src (number v) answer (set (set answer 1 k) 0 (place v))
 told src answer k v h is as-case counted =
-    let f : few answer ≡ false = le-ltb _ _ h in
+    let f : few 2 answer ≡ false = le-ltb _ _ h in
     let e : v ≡ utf8Error src = sym as-case ∙ is in
     record {
       returned = rw f (ap number e);

@@ -14,21 +14,21 @@ use Rattle.reader.specs.Outcome.{Outcome, treeArea, after, outcome}
 abbrev pub words : Numbers → List ℕ
 words a = a .number ∷ a .place ∷ a .tokens ∷ a .nodes ∷ a .text ∷ a .openings ∷ []
 
--- the answer's slice has fewer than six words
-abbrev pub few : List ℕ → Bool
-few answer = ltb (length answer) 6
+-- the answer's slice has fewer than so many words
+abbrev pub few : ℕ → List ℕ → Bool
+few words answer = ltb (length answer) words
 
 -- The number r that is returned for a source, and the four lent slices before and after. With fewer than six words for the answer nothing is
 -- written anywhere, and 4294967295 is returned; else all is the reader's outcome for slices of these lengths.
 pub record Called (src : List ℕ) (r : ℕ) (tokens₀ text₀ tree₀ answer₀ tokens text tree answer : List ℕ) : Type 0 where
   -- the number
-  pub returned : r ≡ cond (few answer₀) 4294967295 (numbersOf (outcome src (length tokens₀) (length text₀) (length tree₀) .answer) .number)
+  pub returned : r ≡ cond (few 6 answer₀) 4294967295 (numbersOf (outcome src (length tokens₀) (length text₀) (length tree₀) .answer) .number)
   -- the six numbers, and behind them the words that were there
-  pub answer-is : answer ≡ cond (few answer₀) answer₀ (words (numbersOf (outcome src (length tokens₀) (length text₀) (length tree₀) .answer)) ++ drop 6 answer₀)
+  pub answer-is : answer ≡ cond (few 6 answer₀) answer₀ (words (numbersOf (outcome src (length tokens₀) (length text₀) (length tree₀) .answer)) ++ drop 6 answer₀)
   -- the whole of the token slice, of the text slice and of the tree slice
-  pub tokens-are : tokens ≡ cond (few answer₀) tokens₀ (after (outcome src (length tokens₀) (length text₀) (length tree₀) .tokens) (tokenArea (length src)) tokens₀)
-  pub text-is : text ≡ cond (few answer₀) text₀ (after (outcome src (length tokens₀) (length text₀) (length tree₀) .text) (length src) text₀)
-  pub tree-is : tree ≡ cond (few answer₀) tree₀ (after (outcome src (length tokens₀) (length text₀) (length tree₀) .tree) (treeArea (length src)) tree₀)
+  pub tokens-are : tokens ≡ cond (few 6 answer₀) tokens₀ (after (outcome src (length tokens₀) (length text₀) (length tree₀) .tokens) (tokenArea (length src)) tokens₀)
+  pub text-is : text ≡ cond (few 6 answer₀) text₀ (after (outcome src (length tokens₀) (length text₀) (length tree₀) .text) (length src) text₀)
+  pub tree-is : tree ≡ cond (few 6 answer₀) tree₀ (after (outcome src (length tokens₀) (length text₀) (length tree₀) .tree) (treeArea (length src)) tree₀)
 
 -- numbers that fit a word each. Only private contracts cite it.
 pub record Small (a : Numbers) : Type 0 where

@@ -35,19 +35,19 @@ flat-one f l x = flat-append f l (x ∷ []) ∙ ap (λ r. flatMap f l ++ r) (app
 
 -- ---- nodes
 
-module _ (source : List ℕ) (toks : List Token) where
+module _ (source : List ℕ) where
   -- where there is no node there is no Float
-  pub no-node : (i : ℕ) → FloatSpelled source toks (getD [] i blank)
+  pub no-node : (i : ℕ) → FloatSpelled source (getD [] i blank)
   no-node i e = absurd (omega arith)
 
   -- a node behind the others, and one in the place of another
-  pub added : (ns : List Node) (x : Node) → ((i : ℕ) → FloatSpelled source toks (getD ns i blank)) → FloatSpelled source toks x → (i : ℕ) → FloatSpelled source toks (getD (ns ++ (x ∷ [])) i blank)
+  pub added : (ns : List Node) (x : Node) → ((i : ℕ) → FloatSpelled source (getD ns i blank)) → FloatSpelled source x → (i : ℕ) → FloatSpelled source (getD (ns ++ (x ∷ [])) i blank)
   added [] x h f zero = f
   added [] x h f (suc i) = no-node i
   added (n ∷ ns) x h f zero = h zero
   added (n ∷ ns) x h f (suc i) = added ns x (λ j. h (suc j)) f i
 
-  pub replaced : (ns : List Node) (m : ℕ) (x : Node) → ((i : ℕ) → FloatSpelled source toks (getD ns i blank)) → FloatSpelled source toks x → (i : ℕ) → FloatSpelled source toks (getD (set ns m x) i blank)
+  pub replaced : (ns : List Node) (m : ℕ) (x : Node) → ((i : ℕ) → FloatSpelled source (getD ns i blank)) → FloatSpelled source x → (i : ℕ) → FloatSpelled source (getD (set ns m x) i blank)
   replaced [] m x h f i = no-node i
   replaced (n ∷ ns) zero x h f zero = f
   replaced (n ∷ ns) zero x h f (suc i) = h (suc i)
@@ -125,16 +125,16 @@ module _ (source : List ℕ) (toks : List Token) where
     abbrev its-node : Literal → Node
     its-node l = literalNode (tokenAt source toks t .start) (tokenAt source toks t .end) l
 
-    pub literal-spelled : FloatSpelled source toks (its-node (tokenAt source toks t .literal))
+    pub literal-spelled : FloatSpelled source (its-node (tokenAt source toks t .literal))
     literal-spelled = go (tokenAt source toks t .literal) refl
       where
-        go : (l : Literal) → tokenAt source toks t .literal ≡ l → FloatSpelled source toks (its-node l)
+        go : (l : Literal) → tokenAt source toks t .literal ≡ l → FloatSpelled source (its-node l)
         go (L.Bool b) e k = absurd (omega arith)
         go (L.Int z) e k = absurd (omega arith)
         go (L.String at len) e k = absurd (omega arith)
         go (L.Float x) e k =
             let f = coded .of x e in
-            record { t = t; there = there; is-float = f .code; starts = refl; ends = refl; value = x; reads = f .value; low = refl; high = refl }
+            record { value = x; reads = f .value; low = refl; high = refl }
         go L.None e k = absurd (omega arith)
 
     pub literal-span : nodeSpan (its-node (tokenAt source toks t .literal)) ≡ tokenSpan (tokenAt source toks t)

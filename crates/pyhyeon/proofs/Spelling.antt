@@ -118,7 +118,7 @@ eof-next (t ∷ r) h = (r, ap (λ x. x ∷ r) (eqb→eq t code.Eof (⊎-elim (λ
 module _ (source : List ℕ) (toks : List Token) where
   -- the nodes of k′ have the Floats of those of k
   record Along (k k′ : Kept) : Type 0 where
-    each : ((i : ℕ) → FloatSpelled source toks (getD (k .nodes) i blank)) → (i : ℕ) → FloatSpelled source toks (getD (k′ .nodes) i blank)
+    each : ((i : ℕ) → FloatSpelled source (getD (k .nodes) i blank)) → (i : ℕ) → FloatSpelled source (getD (k′ .nodes) i blank)
     spans : flatMap nodeSpan (k′ .nodes) ≡ flatMap nodeSpan (k .nodes)
 
   then : {a b c : Kept} → Along a b → Along b c → Along a c
@@ -132,10 +132,10 @@ module _ (source : List ℕ) (toks : List Token) where
   put-along i v k = record { each = λ h. h; spans = refl }
 
   write-along : (i : ℕ) (x : Node) (k : Kept) → T (not (eqb (x .kind) kind.Float)) → Along k (write i x k)
-  write-along i x k t = record { each = λ h. added source toks (k .nodes) x h (λ e. absurd (rw e at t)); spans = spans-write (k .nodes) x t }
+  write-along i x k t = record { each = λ h. added source (k .nodes) x h (λ e. absurd (rw e at t)); spans = spans-write (k .nodes) x t }
 
-  change-along : (m : ℕ) (f : Node → Node) (k : Kept) → (FloatSpelled source toks (nth m k) → FloatSpelled source toks (f (nth m k))) → nodeSpan (f (nth m k)) ≡ nodeSpan (nth m k) → Along k (change m f k)
-  change-along m f k g e = record { each = λ h. replaced source toks (k .nodes) m _ h (g (h m)); spans = spans-set (k .nodes) m _ e }
+  change-along : (m : ℕ) (f : Node → Node) (k : Kept) → (FloatSpelled source (nth m k) → FloatSpelled source (f (nth m k))) → nodeSpan (f (nth m k)) ≡ nodeSpan (nth m k) → Along k (change m f k)
+  change-along m f k g e = record { each = λ h. replaced source (k .nodes) m _ h (g (h m)); spans = spans-set (k .nodes) m _ e }
 
   wrap-along : (c f : ℕ) (k : Kept) → Along k (wrap source toks c f k)
   unfolding wrap
@@ -183,7 +183,7 @@ module _ (source : List ℕ) (toks : List Token) where
   -- what holds from the start on: which tokens are left, and the Floats of the nodes are those of the tokens that were taken
   record SoFar (s : St (machine source toks)) : Type 0 where
     left : s .rest ≡ drop (s .kept .at) (symbols source toks)
-    each : (i : ℕ) → FloatSpelled source toks (getD (s .kept .nodes) i blank)
+    each : (i : ℕ) → FloatSpelled source (getD (s .kept .nodes) i blank)
     in-order : flatMap nodeSpan (s .kept .nodes) ≡ flatMap tokenSpan (take (s .kept .at) toks)
 
   -- a token is taken
@@ -220,7 +220,7 @@ module _ (source : List ℕ) (toks : List Token) where
         let there : k .at + 1 - 1 < length toks = omega (arith, n .there) in
         record {
           left = left-on (k .at) (h .left);
-          each = added source toks (k .nodes) _ (h .each) (literal-spelled source toks floats (k .at + 1 - 1) there);
+          each = added source (k .nodes) _ (h .each) (literal-spelled source toks floats (k .at + 1 - 1) there);
           in-order =
               flat-one nodeSpan (k .nodes) _
               ∙ ap (λ r. flatMap nodeSpan (k .nodes) ++ r) (literal-span source toks floats (k .at + 1 - 1) there)
@@ -239,7 +239,7 @@ module _ (source : List ℕ) (toks : List Token) where
 
     at-first : SoFar (start source toks)
     unfolding start flatMap
-    at-first = record { left = refl; each = no-node source toks; in-order = refl }
+    at-first = record { left = refl; each = no-node source; in-order = refl }
 
     at-end : Ends (λ _ s. SoFar s) (λ _ s. SoFar s) (descend pyhyeon depth Program 0 (start source toks))
     at-end = ends-map (λ n s h. h at-first) (λ n s h. h at-first) (descend-by keeps pyhyeon made-of-steps depth Program 0 (start source toks))

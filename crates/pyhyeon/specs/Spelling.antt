@@ -1,12 +1,12 @@
 -- What is said of the Floats of an accepted script: "A Float record carries in r and s the start and end of its token" (02, change 3), and p and q are the
 -- value of the bytes that stand there. It follows from the definitions (proofs/Spelling.antt), and is said here for those who read a tree.
 -- Assumes nothing.
-use Prim.Native.Nat.{ℕ, _<_}
+use Prim.Native.Nat.{ℕ}
 use mathlib.Core.Path.{_≡_}
 use mathlib.Core.Bool.{cond}
 use mathlib.Core.List.{List, [], _∷_, flatMap}
 use lib.Dec.{eqb}
-use lib.ListN.{length, getD}
+use lib.ListN.{getD}
 use lib.Ieee.{binary64, toBits}
 use lib.Ieee as ieee
 use Rattle.source.specs.Bytes.{part}
@@ -17,24 +17,18 @@ use Rattle.numbers.specs.Decimal.{decimalOf}
 use Rattle.numbers.specs.declared.decimal.Decimal.the-variants.{Value}
 use Rattle.ast.specs.Kind as kind
 use Rattle.ast.specs.Node.{Node, blank}
-use Rattle.pyhyeon.specs.Action.{tokenAt}
 
--- A Float with the fields p, q, r and s: token t of the list is a Float, r and s are where it starts and ends, the bytes from r to s have this value (01, Raw
--- tokens: "Its value is one multiplication or one division"), and p and q are the halves of its 64 bits.
-pub record Spelled (source : List ℕ) (toks : List Token) (p q r s : ℕ) : Type 0 where
-  pub t : ℕ
-  pub there : t < length toks
-  pub is-float : tokenAt source toks t .code ≡ Float
-  pub starts : r ≡ tokenAt source toks t .start
-  pub ends : s ≡ tokenAt source toks t .end
+-- A Float with the fields p, q, r and s: the bytes from r to s have this value ("Its value is one multiplication or one division of two exact numbers", 01, Raw
+-- tokens), and p and q are its bits ("p low, q high half of the 64 bits", 01, Tree).
+pub record Spelled (source : List ℕ) (p q r s : ℕ) : Type 0 where
   pub value : ieee.Float
   pub reads : decimalOf (part source r s) ≡ Value value
   pub low : p ≡ halvesOf (toBits binary64 value) .low
   pub high : q ≡ halvesOf (toBits binary64 value) .high
 
 -- a node, where it is a Float
-abbrev pub FloatSpelled : List ℕ → List Token → Node → Type 0
-FloatSpelled source toks n = n .kind ≡ kind.Float → Spelled source toks (n .p) (n .q) (n .r) (n .s)
+abbrev pub FloatSpelled : List ℕ → Node → Type 0
+FloatSpelled source n = n .kind ≡ kind.Float → Spelled source (n .p) (n .q) (n .r) (n .s)
 
 -- start and end of a Float token, r and s of a Float node, and nothing of any other
 abbrev pub tokenSpan : Token → List (ℕ × ℕ)
@@ -43,8 +37,8 @@ tokenSpan t = cond (eqb (t .code) Float) ((t .start, t .end) ∷ []) []
 abbrev pub nodeSpan : Node → List (ℕ × ℕ)
 nodeSpan n = cond (eqb (n .kind) kind.Float) ((n .r, n .s) ∷ []) []
 
--- Each Float of the nodes has its spelling from a token; and the Floats in the order of their numbers have the spans of the Float tokens in their order, so that
--- none is lost, added or exchanged. Of the nodes' own spans this says nothing.
+-- "in r and s the start and end of its token": the Floats, in the order of their numbers, have the spans of the Float tokens, in their order, so that none is lost,
+-- added or exchanged. And the bytes there have each one's value. Of the nodes' own spans this says nothing.
 pub record Spellings (source : List ℕ) (toks : List Token) (ns : List Node) : Type 0 where
-  pub each : (i : ℕ) → FloatSpelled source toks (getD ns i blank)
   pub in-order : flatMap nodeSpan ns ≡ flatMap tokenSpan toks
+  pub each : (i : ℕ) → FloatSpelled source (getD ns i blank)
