@@ -17,19 +17,15 @@ abbrev pub leaf : ℕ → ℕ → ℕ → Leaf
 leaf kind p q = record { kind = kind; p = p; q = q; r = 0; s = 0 }
 
 -- "p low, q high half of the 64 bits"
-abbrev pub halved : ℕ → Halves → Leaf
-halved kind h = leaf kind (h .low) (h .high)
+abbrev pub halved : ℕ → ℕ → ℕ → Halves → Leaf
+halved kind r s h = record { kind = kind; p = h .low; q = h .high; r = r; s = s }
 
--- the same of a Float, with "the start and end of its token" in r and s
-abbrev pub spelled : ℕ → ℕ → Halves → Leaf
-spelled start end h = record { kind = kind.Float; p = h .low; q = h .high; r = start; s = end }
-
--- the kind and the fields of a literal whose token stands from start to end
+-- the kind and the fields of a literal whose token stands from start to end: a Float has "in r and s the start and end of its token"
 abbrev pub leafOf : ℕ → ℕ → Literal → Leaf
 leafOf start end (L.Bool b) = leaf kind.Bool (cond b 1 0) 0
-leafOf start end (L.Int z) = halved kind.Int (halvesOf (twosComplement z))
+leafOf start end (L.Int z) = halved kind.Int 0 0 (halvesOf (twosComplement z))
 leafOf start end (L.String at len) = leaf kind.String at len
-leafOf start end (L.Float x) = spelled start end (halvesOf (toBits binary64 x))
+leafOf start end (L.Float x) = halved kind.Float start end (halvesOf (toBits binary64 x))
 leafOf start end L.None = leaf kind.None 0 0
 
 -- its node, when it is written: what widens the node's span later leaves r and s (Node.antt, `spanned`)

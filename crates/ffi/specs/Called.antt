@@ -8,7 +8,7 @@ use lib.Dec.{ltb}
 use lib.ListN.{length, drop}
 use Rattle.areas.specs.Area.{tokenArea}
 use Rattle.reader.specs.Answer.{Numbers, numbersOf}
-use Rattle.reader.specs.Outcome.{Outcome, treeArea, after, outcome}
+use Rattle.reader.specs.Outcome.{treeArea, after, outcome}
 
 -- "An answer holds number, place, T, N, text bytes, openings"
 abbrev pub words : Numbers → List ℕ
@@ -16,7 +16,7 @@ words a = a .number ∷ a .place ∷ a .tokens ∷ a .nodes ∷ a .text ∷ a .o
 
 -- the answer's slice has fewer than so many words
 abbrev pub few : ℕ → List ℕ → Bool
-few words answer = ltb (length answer) words
+few least answer = ltb (length answer) least
 
 -- The number r that is returned for a source, and the four lent slices before and after. With fewer than six words for the answer nothing is
 -- written anywhere, and 4294967295 is returned; else all is the reader's outcome for slices of these lengths.

@@ -46,7 +46,7 @@ isAct test (p ∕ q) = false
 isAct test (many p) = false
 isAct test (tail c p) = false
 
--- A part is made of such steps: a test that antt computes. A pair is seen only at the end of a sequence, `_⨾_` being to the right.
+-- A part is made of such steps: a test that antt computes. A pair is seen only at the end of a sequence, since `_⨾_` groups to the right.
 unfoldable pub made-of : {Act R : Type 0} → Steps Act → Part Act R → Bool
 unfolding isTok isAct
 made-of W skip = true

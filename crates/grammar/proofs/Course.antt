@@ -7,7 +7,7 @@ use mathlib.Core.Bool.{Bool, true, false}
 use mathlib.Core.List.{List, [], _∷_, _++_, append-assoc, append-nil}
 use Prim.Native.Nat.{ℕ, zero, suc, _+_, _<_}
 use native.Mathlib.Omega.{arith}
-use lib.Dec.{T, eqb, eqb-refl, eqb→eq, ltb→lt}
+use lib.Dec.{T, eqb, eqb-refl, ltb→lt}
 use lib.ListN.{length}
 use Rattle.grammar.specs.Sets.{mem, sees, apart}
 use Rattle.grammar.specs.Grammar.{Part, skip, act, tok, see, call, _⨾_, _∕_, many, tail}
@@ -16,7 +16,7 @@ use Rattle.grammar.specs.Descent.{Plan, Answer, done, no, deep, stuck, W
 use Rattle.grammar.specs.Check.{next, fits}
 use Rattle.grammar.specs.Complete.{offers, ready, alive, complete}
 use Rattle.grammar.specs.Misfit.{every}
-use Rattle.grammar.proofs.Sets.{Sees, and-l, and-r, and-i, or-l, or-r, or-e, sees-within, sees-apart}
+use Rattle.grammar.proofs.Sets.{Sees, and-l, and-r, and-i, or-l, or-r, or-e, sees-one, sees-within, sees-apart}
 use Rattle.grammar.proofs.Agree.{is-if}
 use Rattle.grammar.proofs.Whole.{Sound}
 use Rattle.grammar.proofs.Reading.{Reads, by-skip, by-act, by-tok, by-see, by-call, by-seq, by-left, by-right, many-stop, many-more, tail-stop, tail-last, tail-more, Same, same-head, reads-local, reads-next}
@@ -126,14 +126,10 @@ module _ (isToken : ℕ → Bool) where
     -- a separator that stands next is taken
     separator : (c : ℕ) (s : St M) → Sees (c ∷ []) (s .rest) → (l : List ℕ) × (k : M .Kept) × (s .rest ≡ c ∷ l) × (takeP (c ∷ []) s ≡ ok (record { rest = l; kept = k }))
     unfolding takeP takeFrom
-    separator c s h = from (s .rest) (s .kept) h
-      where
-        is : (t : ℕ) → T (mem t (c ∷ [])) → t ≡ c
-        is t m = ⊎-elim (λ e. eqb→eq t c e) (λ e. absurd e) (or-e (eqb t c) false m)
-
-        from : (l : List ℕ) (k : M .Kept) → Sees (c ∷ []) l → (l₁ : List ℕ) × (k₁ : M .Kept) × (l ≡ c ∷ l₁) × (takeFrom {M = M} (c ∷ []) l k ≡ ok (record { rest = l₁; kept = k₁ }))
-        from [] k h = absurd (h .holds)
-        from (t ∷ l) k h = (l, M .shift t k, ap (λ (z : ℕ). z ∷ l) (is t (h .holds)), is-if (mem t (c ∷ [])) (record { rest = l; kept = M .shift t k }) (h .holds))
+    separator c s h =
+        let (l, e) = sees-one c (s .rest) h in
+        let k : M .Kept = M .shift c (s .kept) in
+        (l, k, e, ap (λ (z : List ℕ). takeFrom {M = M} (c ∷ []) z (s .kept)) e ∙ is-if (mem c (c ∷ [])) (record { rest = l; kept = k }) (or-l (eqb c c) false (eqb-refl c)))
 
   module _ {Act R : Type 0} (G : Plan Act R) (good : (r : R) → Sound G r) where
     both : {K : List ℕ} {p q : Part Act R} → Finish (next (G .first) q K) (Reads G p) [] → Finish K (Reads G q) [] → Finish K (Reads G (p ⨾ q)) []

@@ -1,6 +1,6 @@
 -- What the tests on sets of token codes say.
 -- Assumes nothing.
-use mathlib.Core.Path.{subst, sym}
+use mathlib.Core.Path.{_≡_, subst, sym, ap}
 use mathlib.Core.Logic.{_⊎_, inl, inr, ⊎-elim}
 use mathlib.Core.Bool.{Bool, true, false, not, _&&_, _||_}
 use mathlib.Core.List.{List, [], _∷_, _++_}
@@ -40,6 +40,9 @@ pub not-e : (a : Bool) → T (not a) → T a → ⊥
 not-e true n t = n
 not-e false n t = t
 
+pub mem-one : (x c : ℕ) → T (mem x (c ∷ [])) → x ≡ c
+mem-one x c t = ⊎-elim (λ h. eqb→eq x c h) (λ h. absurd h) (or-e (eqb x c) false t)
+
 mem-left : (x : ℕ) (a b : List ℕ) → T (mem x a) → T (mem x (a ++ b))
 mem-left x [] b t = absurd t
 mem-left x (y ∷ a) b t = ⊎-elim (λ h. or-l (eqb x y) (mem x (a ++ b)) h) (λ h. or-r (eqb x y) (mem x (a ++ b)) (mem-left x a b h)) (or-e (eqb x y) (mem x a) t)
@@ -62,6 +65,10 @@ mem-apart x (y ∷ a) b w t u =
     (or-e (eqb x y) (mem x a) t)
 
 -- the same of the next token
+pub sees-one : (c : ℕ) (l : List ℕ) → Sees (c ∷ []) l → (r : List ℕ) × (l ≡ c ∷ r)
+sees-one c [] h = absurd (h .holds)
+sees-one c (t ∷ r) h = (r, ap (λ (x : ℕ). x ∷ r) (mem-one t c (h .holds)))
+
 pub sees-left : {a l : List ℕ} (b : List ℕ) → Sees a l → Sees (a ++ b) l
 sees-left {a} {l = []} b h = absurd (h .holds)
 sees-left {a} {l = t ∷ ts} b h = record { holds = mem-left t a b (h .holds) }

@@ -1,7 +1,6 @@
 -- The tokens that stand before the end of the input: one that is taken is one of them.
 -- Assumes nothing.
 use mathlib.Core.Path.{_≡_, refl, subst, ap, _∙_}
-use mathlib.Core.Logic.{⊎-elim}
 use mathlib.Core.Bool.{Bool, true, false, not}
 use mathlib.Core.List.{List, [], _∷_, _++_}
 use Prim.Native.Nat.{ℕ, zero, suc, _+_, _≤_, _<_}
@@ -11,7 +10,7 @@ use lib.ListN.{length, drop}
 use Rattle.grammar.specs.Sets.{mem, sees}
 use Rattle.grammar.specs.Trial.{Machine, St, takeFrom, takeP}
 use Rattle.grammar.specs.Limits.{unless, before}
-use Rattle.grammar.proofs.Sets.{Sees, not-e, or-l, or-r, or-e}
+use Rattle.grammar.proofs.Sets.{Sees, not-e, or-l, or-r, sees-one}
 use Rattle.grammar.proofs.Begin.{On, on-fail, on-if}
 
 counted : (b : Bool) (n : ℕ) → (T b → ⊥) → unless b n ≡ suc n
@@ -32,8 +31,7 @@ ended true n h = refl
 ended false n h = absurd h
 
 pub none-before : (c : ℕ) {l : List ℕ} → Sees (c ∷ []) l → before c l ≡ 0
-none-before c {l = []} h = refl
-none-before c {l = t ∷ ts} h = ended (eqb t c) (before c ts) (⊎-elim (λ e. e) (λ e. absurd e) (or-e (eqb t c) false (h .holds)))
+none-before c {l} h = let (ts, e) = sees-one c l h in ap (before c) e ∙ ended (eqb c c) (before c ts) (eqb-refl c)
 
 -- so of an input that is w and then c, with no c in w
 pub before-is : (c : ℕ) (w v : List ℕ) → T (not (mem c w)) → before c (w ++ (c ∷ v)) ≡ length w

@@ -25,7 +25,7 @@ use Rattle.pyhyeon.specs.Symbol.{symbol, symbols}
 use Rattle.pyhyeon.specs.Reading.{Work, Misfit, descent}
 use Rattle.pyhyeon.specs.Earliest.{Earliest}
 use Rattle.pyhyeon.proofs.Earliest.{earliest}
-use Rattle.pyhyeon.proofs.Spans.{symbol-eof}
+use Rattle.pyhyeon.proofs.Symbols.{symbol-eof}
 use Rattle.lookahead.specs.Tokens.{codeAt, startAt, endAt, eofAt, textBefore, tokenOf, tokensOf, Span, Tokens}
 
 -- ---- reading words by number

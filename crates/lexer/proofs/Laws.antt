@@ -9,8 +9,7 @@ use mathlib.Core.Logic.{_⊎_, inl, inr}
 use Prim.Native.Nat.{ℕ, zero, suc, _+_, _-_, _≤_, zero-le}
 use native.Mathlib.Nat.{le-refl, le-trans}
 use native.Mathlib.Omega.{arith}
-use native.Mathlib.Decide.{ℕ-discrete}
-use lib.Dec.{eqb}
+use lib.Dec.{eqb, eqb→eq}
 use lib.Ieee.{Float}
 use lib.ListN.{length, getD, take, length-append}
 use lib.Seq.{take-nil, take-at, drop-at}
@@ -164,63 +163,40 @@ valued {s} {used} (dedent {start} {end} h k m n t) = mark-valued s Code.Dedent s
 valued (raw h k e f t) = Valued.more f (valued t)
 valued {s} {used} (eof h k) = mark-valued s Code.Eof (length s) (length s) used refl refl Valued.none
 
--- a String's text stands behind the text before it
-held : (before l bs : List ℕ) (used code : ℕ) (v : Literal) → used ≡ length before → valueOf code l used ≡ Value v → Held (before ++ (textOf code l ++ bs)) l v
+-- a String's text stands behind the text before it, and a Float's value is that of its bytes
+held : (before l bs : List ℕ) (used code : ℕ) (v : Literal) → used ≡ length before → valueOf code l used ≡ Value v → Held (before ++ (textOf code l ++ bs)) code l v
 unfolding valueOf textOf lexInteger lexFloat lexString
-held before l bs used code v u = go (eqb code Code.Bool) (eqb code Code.Int) (eqb code Code.Float) (eqb code Code.String) (integerOf l) (decimalOf l)
+held before l bs used code v u = go (eqb code Code.Bool) (eqb code Code.Int) (eqb code Code.Float) (eqb code Code.String) (integerOf l) (decimalOf l) refl refl
   where
     d : List ℕ
     d = decoded (unquoted l)
 
-    is : (text : List ℕ) (w : Literal) → Held text l w → Value w ≡ Value v → Held text l v
-    is text w h e = let f : w ≡ v = cc in subst (Held text l) f h
+    is : (text : List ℕ) (w : Literal) → Held text code l w → Value w ≡ Value v → Held text code l v
+    is text w h e = let f : w ≡ v = cc in subst (Held text code l) f h
 
-    go : (a b c t : Bool) (i : Integer) (x : Decimal)
+    go : (a b c t : Bool) (i : Integer) (x : Decimal) → eqb code Code.Float ≡ c → decimalOf l ≡ x
         → cond a (Value (L.Bool (eqb (getD l 0 0) 84))) (cond b (ofInteger i) (cond c (ofDecimal x) (cond t (Value (L.String used (length d))) (Value L.None)))) ≡ Value v
-        → Held (before ++ (cond t d [] ++ bs)) l v
-    go true b c t i x e = is (before ++ (cond t d [] ++ bs)) (L.Bool (eqb (getD l 0 0) 84)) tt e
-    go false true c t (I.Value n) x e = is (before ++ (cond t d [] ++ bs)) (L.Int n) tt e
-    go false true c t I.OutOfRange x e = let z : _≡_ {A = ℕ} 0 1 = cc in absurd (omega arith)
-    go false false true t i (D.Value n) e = is (before ++ (cond t d [] ++ bs)) (L.Float n) tt e
-    go false false true t i D.NotAdmitted e = let z : _≡_ {A = ℕ} 0 1 = cc in absurd (omega arith)
-    go false false false false i x e = is (before ++ bs) L.None tt e
-    go false false false true i x e =
+        → Held (before ++ (cond t d [] ++ bs)) code l v
+    go true b c t i x f g e = is (before ++ (cond t d [] ++ bs)) (L.Bool (eqb (getD l 0 0) 84)) tt e
+    go false true c t (I.Value n) x f g e = is (before ++ (cond t d [] ++ bs)) (L.Int n) tt e
+    go false true c t I.OutOfRange x f g e = let z : _≡_ {A = ℕ} 0 1 = cc in absurd (omega arith)
+    go false false true t i (D.Value n) f g e = is (before ++ (cond t d [] ++ bs)) (L.Float n) (record { coded = eqb→eq code Code.Float (rw f tt); value = g }) e
+    go false false true t i D.NotAdmitted f g e = let z : _≡_ {A = ℕ} 0 1 = cc in absurd (omega arith)
+    go false false false false i x f g e = is (before ++ bs) L.None tt e
+    go false false false true i x f g e =
         is (before ++ (d ++ bs)) (L.String used (length d))
         (omega (arith, length-append before (d ++ bs), length-append d bs), ap (take (used + length d - used)) (drop-at before (d ++ bs) used (sym u)) ∙ take-at d bs (used + length d - used) (omega arith))
         e
 
-strings-held : {s : List ℕ} {lo hi depth used : ℕ} {ts : List Token} {bs : List ℕ} (before : List ℕ) → used ≡ length before → Tokens s lo hi depth used ts bs → Each (InText s (before ++ bs)) ts
-strings-held before u (indent {start} {end} h k m n t) = more {t = mark Code.Indent start end} tt (strings-held before u t)
-strings-held before u (dedent {start} {end} h k m n t) = more {t = mark Code.Dedent start end} tt (strings-held before u t)
-strings-held {s} {used} before u (raw {start} {code} {end} {v} {ts} {bs} h k e f t) =
+literals-held : {s : List ℕ} {lo hi depth used : ℕ} {ts : List Token} {bs : List ℕ} (before : List ℕ) → used ≡ length before → Tokens s lo hi depth used ts bs → Each (InText s (before ++ bs)) ts
+literals-held before u (indent {start} {end} h k m n t) = more {t = mark Code.Indent start end} tt (literals-held before u t)
+literals-held before u (dedent {start} {end} h k m n t) = more {t = mark Code.Dedent start end} tt (literals-held before u t)
+literals-held {s} {used} before u (raw {start} {code} {end} {v} {ts} {bs} h k e f t) =
     let l = part s start end in
     more {t = token code start end v} (held before l bs used code v u f)
     (subst (λ (text : List ℕ). Each (InText s text) ts) (append-assoc before (textOf code l) bs)
-    (strings-held (before ++ textOf code l) (omega (arith, length-append before (textOf code l))) t))
-strings-held {s} before u (eof h k) = more {t = mark Code.Eof (length s) (length s)} tt none
-
--- a value that is a Float comes of Float's code, and is that of the bytes
-of-float : (code : ℕ) (l : List ℕ) (used : ℕ) (x : Float) → valueOf code l used ≡ Value (L.Float x) → (code ≡ Code.Float) × (decimalOf l ≡ D.Value x)
-unfolding valueOf lexInteger lexFloat lexString
-of-float code l used x = go (ℕ-discrete code Code.Float)
-  where
-    admitted : (d : Decimal) → ofDecimal d ≡ Value (L.Float x) → d ≡ D.Value x
-    admitted (D.Value y) e = cc
-    admitted D.NotAdmitted e = let z : _≡_ {A = ℕ} 0 1 = cc in absurd (omega arith)
-
-    another : (a b t : Bool) (i : Integer) (v w : Literal) → (v ≡ L.Float x → ⊥) → (w ≡ L.Float x → ⊥) → cond a (Value v) (cond b (ofInteger i) (cond t (Value w) (Value L.None))) ≡ Value (L.Float x) → ⊥
-    another true b t i v w nv nw e = nv cc
-    another false true t (I.Value n) v w nv nw e = let z : _≡_ {A = ℕ} 0 1 = cc in omega arith
-    another false true t I.OutOfRange v w nv nw e = let z : _≡_ {A = ℕ} 0 1 = cc in omega arith
-    another false false true i v w nv nw e = nw cc
-    another false false false i v w nv nw e = let z : _≡_ {A = ℕ} 0 1 = cc in omega arith
-
-    go : Dec (code ≡ Code.Float) → valueOf code l used ≡ Value (L.Float x) → (code ≡ Code.Float) × (decimalOf l ≡ D.Value x)
-    go (yes e) h = (e, admitted (decimalOf l) (sym (value-float code l used e) ∙ h))
-    go (no n) h =
-        absurd (another (eqb code Code.Bool) (eqb code Code.Int) (eqb code Code.String) (integerOf l) _ _
-        (λ e. let z : _≡_ {A = ℕ} 0 1 = cc in omega arith) (λ e. let z : _≡_ {A = ℕ} 0 1 = cc in omega arith)
-        (rw (ne-eqb code Code.Float n) at h))
+    (literals-held (before ++ textOf code l) (omega (arith, length-append before (textOf code l))) t))
+literals-held {s} before u (eof h k) = more {t = mark Code.Eof (length s) (length s)} tt none
 
 -- Float's code has a Float's value
 has-float : (code : ℕ) (l : List ℕ) (used : ℕ) (v : Literal) → code ≡ Code.Float → valueOf code l used ≡ Value v → (x : Float) × (v ≡ L.Float x)
@@ -231,15 +207,12 @@ has-float code l used v e h = go (decimalOf l) (sym (value-float code l used e) 
     go (D.Value x) k = (x, cc)
     go D.NotAdmitted k = let z : _≡_ {A = ℕ} 0 1 = cc in absurd (omega arith)
 
-floats-coded : {s : List ℕ} {used : ℕ} {ts : List Token} {bs : List ℕ} → Valued s used ts bs → Each (FloatCoded s) ts
-floats-coded Valued.none = none
-floats-coded {s} (Valued.more {used} {t} v h) =
+floats-coded : {s text : List ℕ} {used : ℕ} {ts : List Token} {bs : List ℕ} → Valued s used ts bs → Each (InText s text) ts → Each (FloatCoded s) ts
+floats-coded Valued.none none = none
+floats-coded {s} {text} (Valued.more {used} {t} v h) (more i is) =
     more
-    (record {
-      of = λ x e. let f = of-float (t .code) (bytesOf s t) used x (v ∙ ap Value e) in record { code = f .0; value = f .1 };
-      has = λ e. has-float (t .code) (bytesOf s t) used (t .literal) e v;
-    })
-    (floats-coded h)
+    (record { of = λ x e. subst (Held text (t .code) (bytesOf s t)) e i; has = λ e. has-float (t .code) (bytesOf s t) used (t .literal) e v })
+    (floats-coded h is)
 
 -- ---- the laws of the token list
 
@@ -272,8 +245,8 @@ module _ (s : List ℕ) (ts : List Token) (bs : List ℕ) (e : tokenList s ≡ s
   pub tokens-valued : Valued s 0 ts bs
   tokens-valued = valued tokens
 
-  pub tokens-floats : Each (FloatCoded s) ts
-  tokens-floats = floats-coded tokens-valued
-
   pub tokens-held : Each (InText s bs) ts
-  tokens-held = strings-held [] refl tokens
+  tokens-held = literals-held [] refl tokens
+
+  pub tokens-floats : Each (FloatCoded s) ts
+  tokens-floats = floats-coded tokens-valued tokens-held

@@ -75,25 +75,26 @@ pub data Valued (s : List ℕ) : ℕ → List Token → List ℕ → Type 0 wher
   more : {used : ℕ} {t : Token} {ts : List Token} {bs : List ℕ} → valueOf (t .code) (bytesOf s t) used ≡ Value (t .literal)
       → Valued s (used + length (textOf (t .code) (bytesOf s t))) ts bs → Valued s used (t ∷ ts) (textOf (t .code) (bytesOf s t) ++ bs)
 
--- a literal of a token with the bytes l: a String's place and length lie within the text, and what stands there is what l decodes to
-abbrev pub Held : List ℕ → List ℕ → Literal → Type 0
-Held text l (L.Bool b) = Unit {0}
-Held text l (L.Int n) = Unit {0}
-Held text l (L.String at n) = (at + n ≤ length text) × (part text at (at + n) ≡ decoded (unquoted l))
-Held text l (L.Float x) = Unit {0}
-Held text l L.None = Unit {0}
+-- Float's code, and bytes of the value x
+pub record FloatOf (code : ℕ) (l : List ℕ) (x : Float) : Type 0 where
+  pub coded : code ≡ Code.Float
+  pub value : decimalOf l ≡ D.Value x
+
+-- a literal of a token with this code and the bytes l: a String's place and length lie within the text, and what stands there is what l decodes to; a Float's
+-- code is Float's, and its value that of l
+abbrev pub Held : List ℕ → ℕ → List ℕ → Literal → Type 0
+Held text code l (L.Bool b) = Unit {0}
+Held text code l (L.Int n) = Unit {0}
+Held text code l (L.String at n) = (at + n ≤ length text) × (part text at (at + n) ≡ decoded (unquoted l))
+Held text code l (L.Float x) = FloatOf code l x
+Held text code l L.None = Unit {0}
 
 abbrev pub InText : List ℕ → List ℕ → Token → Type 0
-InText s text t = Held text (bytesOf s t) (t .literal)
+InText s text t = Held text (t .code) (bytesOf s t) (t .literal)
 
--- the token has Float's code, and its bytes have the value x
-pub record FloatOf (s : List ℕ) (t : Token) (x : Float) : Type 0 where
-  pub code : t .code ≡ Code.Float
-  pub value : decimalOf (bytesOf s t) ≡ D.Value x
-
--- where its literal is a Float the token is so, and a token with Float's code has such a literal
+-- where the literal is a Float, code and bytes are so, and a token with Float's code has such a literal
 pub record FloatCoded (s : List ℕ) (t : Token) : Type 0 where
-  pub of : (x : Float) → t .literal ≡ L.Float x → FloatOf s t x
+  pub of : (x : Float) → t .literal ≡ L.Float x → FloatOf (t .code) (bytesOf s t) x
   pub has : t .code ≡ Code.Float → (x : Float) × (t .literal ≡ L.Float x)
 
 pub each-at : {P : Token → Type 0} {ts : List Token} → Each P ts → (i : ℕ) (d : Token) → i < length ts → P (getD ts i d)

@@ -1,4 +1,4 @@
--- 01's listing ("For `a<b<c` and a line feed"), computed from the definitions.
+-- 01's listing ("For `a<b<c` and a line feed"), with the version of 02, change 3, computed from the definitions.
 -- Assumes nothing.
 use mathlib.Core.Path.{_≡_, ap}
 use mathlib.Core.List.{_++_}

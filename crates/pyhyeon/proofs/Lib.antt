@@ -10,5 +10,6 @@ pub mod Starred
 pub mod Samples
 pub mod Late
 pub mod Earliest
-pub mod Spans
+pub mod Symbols
+pub mod Floats
 pub mod Spelling

@@ -4,10 +4,9 @@
 use mathlib.Core.Path.{_≡_, refl, sym, ap, _∙_, subst}
 use mathlib.Core.Bool.{Bool, true, false, not}
 use mathlib.Core.List.{List, [], _∷_, _++_, flatMap}
-use mathlib.Core.Logic.{⊎-elim}
 use Prim.Native.Nat.{ℕ, zero, suc, _+_, _-_, _<_}
 use native.Mathlib.Omega.{arith}
-use lib.Dec.{T, eqb, eqb→eq}
+use lib.Dec.{T, eqb}
 use lib.ListN.{length, getD, drop, take}
 use lib.Seq.{drop-drop}
 use Rattle.token.specs.Code as code
@@ -18,7 +17,7 @@ use Rattle.lexer.proofs.Laws.{tokens-floats, tokens-end}
 use Rattle.grammar.specs.Sets.{mem}
 use Rattle.grammar.specs.Trial.{St}
 use Rattle.grammar.specs.Descent.{Answer, done, no, deep, stuck, descend}
-use Rattle.grammar.proofs.Sets.{Sees, or-e}
+use Rattle.grammar.proofs.Sets.{sees-one}
 use Rattle.grammar.proofs.Ends.{Ends, at-done, ends-map}
 use Rattle.grammar.proofs.Along.{Steps, made-of, Keeps, descend-by}
 use Rattle.grammar.proofs.Top.{accepted-at}
@@ -30,10 +29,11 @@ use Rattle.pyhyeon.specs.Action.{Action, mark, literal, named, alone, si
 use Rattle.pyhyeon.specs.Rules.{Rule, Program, Line, Simple, Block, Class, E, O, A, C, S, P, U, F, plain}
 use Rattle.pyhyeon.specs.Tables.{joined, follow, depth, pyhyeon}
 use Rattle.pyhyeon.specs.Reading.{Work, Accepted, start, descended, descent}
-use Rattle.pyhyeon.specs.Spelling.{FloatSpelled, tokenSpan, nodeSpan, Spellings}
+use Rattle.pyhyeon.specs.Spelling.{FloatSpelled, tokenSpelling, nodeSpelling, Spellings}
 use Rattle.pyhyeon.proofs.Meter.{act-at}
 use Rattle.pyhyeon.proofs.Language.{language}
-use Rattle.pyhyeon.proofs.Spans.{flat-one, no-node, added, replaced, spans-write, spans-set, next-token, float-next, spans-more, spans-taken, all-taken, literal-spelled, literal-span}
+use Rattle.pyhyeon.proofs.Symbols.{next-token}
+use Rattle.pyhyeon.proofs.Floats.{flat-one, no-node, added, replaced, floats-write, floats-set, float-next, floats-more, floats-taken, all-taken, literal-spelled, literal-same}
 
 -- what an action writes: no node, nodes of this kind, or that of the literal that was taken
 data Writes : Action → Type 0 where
@@ -110,16 +110,11 @@ made-of-steps P = tt
 made-of-steps U = tt
 made-of-steps F = tt
 
--- Eof stands next
-eof-next : (l : List ℕ) → Sees (code.Eof ∷ []) l → (r : List ℕ) × (l ≡ code.Eof ∷ r)
-eof-next [] h = absurd (h .holds)
-eof-next (t ∷ r) h = (r, ap (λ x. x ∷ r) (eqb→eq t code.Eof (⊎-elim (λ e. e) (λ e. absurd e) (or-e (eqb t code.Eof) false (h .holds)))))
-
 module _ (source : List ℕ) (toks : List Token) where
   -- the nodes of k′ have the Floats of those of k
   record Along (k k′ : Kept) : Type 0 where
     each : ((i : ℕ) → FloatSpelled source (getD (k .nodes) i blank)) → (i : ℕ) → FloatSpelled source (getD (k′ .nodes) i blank)
-    spans : flatMap nodeSpan (k′ .nodes) ≡ flatMap nodeSpan (k .nodes)
+    spans : flatMap nodeSpelling (k′ .nodes) ≡ flatMap nodeSpelling (k .nodes)
 
   then : {a b c : Kept} → Along a b → Along b c → Along a c
   then f g = record { each = λ h. g .each (f .each h); spans = g .spans ∙ f .spans }
@@ -132,10 +127,10 @@ module _ (source : List ℕ) (toks : List Token) where
   put-along i v k = record { each = λ h. h; spans = refl }
 
   write-along : (i : ℕ) (x : Node) (k : Kept) → T (not (eqb (x .kind) kind.Float)) → Along k (write i x k)
-  write-along i x k t = record { each = λ h. added source (k .nodes) x h (λ e. absurd (rw e at t)); spans = spans-write (k .nodes) x t }
+  write-along i x k t = record { each = λ h. added source (k .nodes) x h (λ e. absurd (rw e at t)); spans = floats-write (k .nodes) x t }
 
-  change-along : (m : ℕ) (f : Node → Node) (k : Kept) → (FloatSpelled source (nth m k) → FloatSpelled source (f (nth m k))) → nodeSpan (f (nth m k)) ≡ nodeSpan (nth m k) → Along k (change m f k)
-  change-along m f k g e = record { each = λ h. replaced source (k .nodes) m _ h (g (h m)); spans = spans-set (k .nodes) m _ e }
+  change-along : (m : ℕ) (f : Node → Node) (k : Kept) → (FloatSpelled source (nth m k) → FloatSpelled source (f (nth m k))) → nodeSpelling (f (nth m k)) ≡ nodeSpelling (nth m k) → Along k (change m f k)
+  change-along m f k g e = record { each = λ h. replaced source (k .nodes) m _ h (g (h m)); spans = floats-set (k .nodes) m _ e }
 
   wrap-along : (c f : ℕ) (k : Kept) → Along k (wrap source toks c f k)
   unfolding wrap
@@ -184,7 +179,7 @@ module _ (source : List ℕ) (toks : List Token) where
   record SoFar (s : St (machine source toks)) : Type 0 where
     left : s .rest ≡ drop (s .kept .at) (symbols source toks)
     each : (i : ℕ) → FloatSpelled source (getD (s .kept .nodes) i blank)
-    in-order : flatMap nodeSpan (s .kept .nodes) ≡ flatMap tokenSpan (take (s .kept .at) toks)
+    in-order : flatMap nodeSpelling (s .kept .nodes) ≡ flatMap tokenSpelling (take (s .kept .at) toks)
 
   -- a token is taken
   abbrev past : ℕ → Kept → Kept
@@ -203,7 +198,7 @@ module _ (source : List ℕ) (toks : List Token) where
     unfolding steps
     shifted t u l k h =
         let n = next-token source toks (k .at) (h .left) in
-        record { left = left-on (k .at) (h .left); each = h .each; in-order = h .in-order ∙ sym (spans-taken source toks (k .at) (n .there) (λ e. u (met (float-next n e)))) }
+        record { left = left-on (k .at) (h .left); each = h .each; in-order = h .in-order ∙ sym (floats-taken source toks (k .at) (n .there) (λ e. u (met (float-next n e)))) }
 
     acted : (a : Action) → T (steps .free a) → (s : St (machine source toks)) → SoFar s → SoFar (record { rest = s .rest; kept = perform source toks a (s .kept) })
     acted a t s h =
@@ -222,9 +217,9 @@ module _ (source : List ℕ) (toks : List Token) where
           left = left-on (k .at) (h .left);
           each = added source (k .nodes) _ (h .each) (literal-spelled source toks floats (k .at + 1 - 1) there);
           in-order =
-              flat-one nodeSpan (k .nodes) _
-              ∙ ap (λ r. flatMap nodeSpan (k .nodes) ++ r) (literal-span source toks floats (k .at + 1 - 1) there)
-              ∙ rw (h .in-order, e) (sym (spans-more source toks (k .at) (n .there)));
+              flat-one nodeSpelling (k .nodes) _
+              ∙ ap (λ r. flatMap nodeSpelling (k .nodes) ++ r) (literal-same source toks floats (k .at + 1 - 1) there)
+              ∙ rw (h .in-order, e) (sym (floats-more source toks (k .at) (n .there)));
         }
 
     taken-both : {a : Action} (w : Writes a) → T (the-literal w) → (t : ℕ) (l : List ℕ) (k : Kept) → SoFar (record { rest = t ∷ l; kept = k }) → SoFar (record { rest = l; kept = perform source toks a (past t k) })
@@ -249,7 +244,7 @@ module _ (source : List ℕ) (toks : List Token) where
   unfolding follow
   accepted bs is n s e =
       let h = at-done (at-end (tokens-floats source toks bs is)) e in
-      let z = eof-next (s .rest) (accepted-at language depth 0 n (start source toks) s e) in
+      let z = sees-one code.Eof (s .rest) (accepted-at language depth 0 n (start source toks) s e) in
       let next = next-token source toks (s .kept .at) (sym (z .1) ∙ h .left) in
       record { each = h .each; in-order = h .in-order ∙ all-taken source toks (tokens-end source toks bs is) next }
 

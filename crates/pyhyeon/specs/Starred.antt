@@ -99,7 +99,7 @@ chained = descent (bytes "a<b<c\n") chainTokens
 
 pub record Printed : Type 0 where
   pub scans : tokenList (bytes "a<b<c\n") ≡ scanned chainTokens []
-  -- T and openings of `2 8 6 0 8 7 19 6`
+  -- T and openings of 01's `1 8 6 0 8 7 19 6`, which 02, change 3, makes version 2
   pub tokens : workOf chained .tokens ≡ 6
   pub openings : workOf chained .openings ≡ 19
   pub accepts : numberOf chained ≡ 0

@@ -11,7 +11,7 @@ use mir.Facts.{toZ-ofZ}
 use Rattle.numbers.specs.Bits.{halvesOf, twosComplement}
 use Rattle.literal.specs.declared.Literal.{Literal}
 use Rattle.literal.specs.Literal.{hasBits}
-use Rattle.ast.specs.Literal.{leaf, halved, spelled, leafOf}
+use Rattle.ast.specs.Literal.{leaf, halved, leafOf}
 use borrow.Author.Needs.{needs}
 use Rattle.ast.proofs.leaf_of.Statement.{statement}
 use Rattle.ast.proofs.leaf_of.Tie as tie
@@ -64,15 +64,15 @@ returns c =
 returns-2 : tie.Need-returns-2
 returns-2 c =
     c .leaf-with2 .ensures
-    ∙ ap (halved 19) (c .before .of-i64 .ensures)
-    ∙ ap (λ (z : ℤ). halved 19 (halvesOf (twosComplement z))) (toZ-ofZ {w = w64} {z = c .before .before .before .l2 .given .0 .0} (search needs))
+    ∙ ap (halved 19 0 0) (c .before .of-i64 .ensures)
+    ∙ ap (λ (z : ℤ). halved 19 0 0 (halvesOf (twosComplement z))) (toZ-ofZ {w = w64} {z = c .before .before .before .l2 .given .0 .0} (search needs))
     ∙ sym (ap (leafOf _ _) (c .before .before .before .l2 .given .1))
 
 returns-3 : tie.Need-returns-3
 returns-3 c = c .leaf-with3 .ensures ∙ sym (ap (leafOf _ _) (c .before .before .l3 .given .1))
 
 returns-4 : tie.Need-returns-4
-returns-4 c = ap (spelled _ _) (c .of-f64 .ensures) ∙ sym (ap (leafOf _ _) (c .before .before .l4 .given .1))
+returns-4 c = ap (halved 21 _ _) (c .of-f64 .ensures) ∙ sym (ap (leafOf _ _) (c .before .before .l4 .given .1))
 
 returns-5 : tie.Need-returns-5
 returns-5 c = c .leaf-with4 .ensures ∙ sym (ap (leafOf _ _) (c .before .enum-told .given .1))

@@ -8,7 +8,7 @@ use native.Mathlib.Omega.{arith}
 use native.Mathlib.Numerals.{add-one}
 use lib.Dec.{T, eqb}
 use lib.Ieee.{Float}
-use lib.ListN.{length, getD, set, take, drop}
+use lib.ListN.{length, getD, set, take}
 use lib.Seq.{take-suc, take-at}
 use borrow.Author.Tests.{ne-eqb}
 use Rattle.token.specs.Code as code
@@ -20,18 +20,14 @@ use Rattle.lexer.proofs.Properties.{Each, FloatCoded, EofLast, each-at}
 use Rattle.ast.specs.Kind as kind
 use Rattle.ast.specs.Node.{Node, blank}
 use Rattle.ast.specs.Literal.{literalNode}
-use Rattle.pyhyeon.specs.Symbol.{Tee, isTee, symbol, symbols}
 use Rattle.pyhyeon.specs.Action.{tokenAt}
-use Rattle.pyhyeon.specs.Spelling.{FloatSpelled, tokenSpan, nodeSpan}
-
-flat-append : {A B : Type 0} (f : A → List B) (l m : List A) → flatMap f (l ++ m) ≡ flatMap f l ++ flatMap f m
-unfolding flatMap
-flat-append f [] m = refl
-flat-append f (x ∷ l) m = ap (λ r. f x ++ r) (flat-append f l m) ∙ sym (append-assoc (f x) (flatMap f l) (flatMap f m))
+use Rattle.pyhyeon.specs.Spelling.{FloatSpelled, tokenSpelling, nodeSpelling}
+use Rattle.pyhyeon.proofs.Symbols.{symbol-eof, symbol-float, Next}
 
 pub flat-one : {A B : Type 0} (f : A → List B) (l : List A) (x : A) → flatMap f (l ++ (x ∷ [])) ≡ flatMap f l ++ f x
 unfolding flatMap
-flat-one f l x = flat-append f l (x ∷ []) ∙ ap (λ r. flatMap f l ++ r) (append-nil (f x))
+flat-one f [] x = append-nil (f x)
+flat-one f (y ∷ l) x = ap (λ r. f y ++ r) (flat-one f l x) ∙ sym (append-assoc (f y) (flatMap f l) (f x))
 
 -- ---- nodes
 
@@ -54,54 +50,31 @@ module _ (source : List ℕ) where
   replaced (n ∷ ns) (suc m) x h f zero = h zero
   replaced (n ∷ ns) (suc m) x h f (suc i) = replaced ns m x (λ j. h (suc j)) f i
 
-pub spans-write : (ns : List Node) (x : Node) → T (not (eqb (x .kind) kind.Float)) → flatMap nodeSpan (ns ++ (x ∷ [])) ≡ flatMap nodeSpan ns
-spans-write ns x t = flat-one nodeSpan ns x ∙ ap (λ r. flatMap nodeSpan ns ++ r) (go (eqb (x .kind) kind.Float) t) ∙ append-nil (flatMap nodeSpan ns)
+pub floats-write : (ns : List Node) (x : Node) → T (not (eqb (x .kind) kind.Float)) → flatMap nodeSpelling (ns ++ (x ∷ [])) ≡ flatMap nodeSpelling ns
+floats-write ns x t = flat-one nodeSpelling ns x ∙ ap (λ r. flatMap nodeSpelling ns ++ r) (go (eqb (x .kind) kind.Float) t) ∙ append-nil (flatMap nodeSpelling ns)
   where
     go : (b : Bool) → T (not b) → cond {A = List (ℕ × ℕ)} b ((x .r, x .s) ∷ []) [] ≡ []
     go true h = absurd h
     go false h = refl
 
-pub spans-set : (ns : List Node) (m : ℕ) (x : Node) → nodeSpan x ≡ nodeSpan (getD ns m blank) → flatMap nodeSpan (set ns m x) ≡ flatMap nodeSpan ns
+pub floats-set : (ns : List Node) (m : ℕ) (x : Node) → nodeSpelling x ≡ nodeSpelling (getD ns m blank) → flatMap nodeSpelling (set ns m x) ≡ flatMap nodeSpelling ns
 unfolding flatMap
-spans-set [] m x e = refl
-spans-set (n ∷ ns) zero x e = ap (λ r. r ++ flatMap nodeSpan ns) e
-spans-set (n ∷ ns) (suc m) x e = ap (λ r. nodeSpan n ++ r) (spans-set ns m x e)
+floats-set [] m x e = refl
+floats-set (n ∷ ns) zero x e = ap (λ r. r ++ flatMap nodeSpelling ns) e
+floats-set (n ∷ ns) (suc m) x e = ap (λ r. nodeSpelling n ++ r) (floats-set ns m x e)
 
 -- ---- tokens
-
--- token n stands next, and t is its symbol
-pub record Next (source : List ℕ) (toks : List Token) (n t : ℕ) : Type 0 where
-  pub there : n < length toks
-  pub is : t ≡ symbol source (tokenAt source toks n)
-
-pub next-token : (source : List ℕ) (toks : List Token) (n : ℕ) {t : ℕ} {l : List ℕ} → t ∷ l ≡ drop n (symbols source toks) → Next source toks n t
-unfolding symbols
-next-token source [] zero e = let z : _≡_ {A = ℕ} 0 1 = cc in absurd (omega arith)
-next-token source [] (suc n) e = let z : _≡_ {A = ℕ} 0 1 = cc in absurd (omega arith)
-next-token source (u ∷ toks) zero e = record { there = omega arith; is = cc }
-next-token source (u ∷ toks) (suc n) e = let h = next-token source toks n e in record { there = omega (arith, h .there); is = h .is }
-
-symbol-float : (source : List ℕ) (t : Token) → t .code ≡ code.Float → symbol source t ≡ code.Float
-symbol-float source t e = rw e
-
--- Tee is another code than Eof
-pub symbol-eof : (source : List ℕ) (t : Token) → symbol source t ≡ code.Eof → t .code ≡ code.Eof
-symbol-eof source t = go (isTee source t)
-  where
-    go : (b : Bool) → cond b Tee (t .code) ≡ code.Eof → t .code ≡ code.Eof
-    go true e = absurd (omega arith)
-    go false e = e
 
 pub float-next : {source : List ℕ} {toks : List Token} {n t : ℕ} → Next source toks n t → tokenAt source toks n .code ≡ code.Float → t ≡ code.Float
 float-next {source} {toks} {n} h e = h .is ∙ symbol-float source (tokenAt source toks n) e
 
 module _ (source : List ℕ) (toks : List Token) where
   -- one token more; and one that is no Float
-  pub spans-more : (n : ℕ) → n < length toks → flatMap tokenSpan (take (n + 1) toks) ≡ flatMap tokenSpan (take n toks) ++ tokenSpan (tokenAt source toks n)
-  spans-more n h = rw (add-one, take-suc toks n (record { code = 0; start = 0; end = 0; literal = L.None }) h) (flat-one tokenSpan (take n toks) (tokenAt source toks n))
+  pub floats-more : (n : ℕ) → n < length toks → flatMap tokenSpelling (take (n + 1) toks) ≡ flatMap tokenSpelling (take n toks) ++ tokenSpelling (tokenAt source toks n)
+  floats-more n h = rw add-one (ap (flatMap tokenSpelling) (take-suc toks n _ h) ∙ flat-one tokenSpelling (take n toks) (tokenAt source toks n))
 
-  pub spans-taken : (n : ℕ) → n < length toks → (tokenAt source toks n .code ≡ code.Float → ⊥) → flatMap tokenSpan (take (n + 1) toks) ≡ flatMap tokenSpan (take n toks)
-  spans-taken n h u = spans-more n h ∙ rw (ne-eqb (tokenAt source toks n .code) code.Float u) (append-nil (flatMap tokenSpan (take n toks)))
+  pub floats-taken : (n : ℕ) → n < length toks → (tokenAt source toks n .code ≡ code.Float → ⊥) → flatMap tokenSpelling (take (n + 1) toks) ≡ flatMap tokenSpelling (take n toks)
+  floats-taken n h u = floats-more n h ∙ rw (ne-eqb (tokenAt source toks n .code) code.Float u) (append-nil (flatMap tokenSpelling (take n toks)))
 
   -- where Eof stands next, all Floats are taken
   eof-at : (front : List Token) (last : Token) (n : ℕ) → Each (λ t. t .code ≡ code.Eof → ⊥) front → n < length (front ++ (last ∷ [])) → tokenAt source (front ++ (last ∷ [])) n .code ≡ code.Eof → n ≡ length front
@@ -109,12 +82,12 @@ module _ (source : List ℕ) (toks : List Token) where
   eof-at (t ∷ front) last zero (Each.more p e) h c = absurd (p c)
   eof-at (t ∷ front) last (suc n) (Each.more p e) h c = ap suc (eof-at front last n e (omega arith) c)
 
-  pub all-taken : {m n : ℕ} → EofLast m toks → Next source toks n code.Eof → flatMap tokenSpan (take n toks) ≡ flatMap tokenSpan toks
+  pub all-taken : {m n : ℕ} → EofLast m toks → Next source toks n code.Eof → flatMap tokenSpelling (take n toks) ≡ flatMap tokenSpelling toks
   all-taken {m} {n} z h =
       let last : Token = mark code.Eof m m in
       let c : tokenAt source toks n .code ≡ code.Eof = symbol-eof source (tokenAt source toks n) (sym (h .is)) in
       let e : n ≡ length (z .front) = eof-at (z .front) last n (z .once) (rw (z .last) at (h .there)) (rw (z .last) at c) in
-      rw (z .last) (ap (flatMap tokenSpan) (take-at (z .front) (last ∷ []) n (sym e)) ∙ sym (flat-one tokenSpan (z .front) last ∙ append-nil (flatMap tokenSpan (z .front))))
+      rw (z .last) (ap (flatMap tokenSpelling) (take-at (z .front) (last ∷ []) n (sym e)) ∙ sym (flat-one tokenSpelling (z .front) last ∙ append-nil (flatMap tokenSpelling (z .front))))
 
   -- ---- the node of a literal, when it is written
 
@@ -137,15 +110,15 @@ module _ (source : List ℕ) (toks : List Token) where
             record { value = x; reads = f .value; low = refl; high = refl }
         go L.None e k = absurd (omega arith)
 
-    pub literal-span : nodeSpan (its-node (tokenAt source toks t .literal)) ≡ tokenSpan (tokenAt source toks t)
-    literal-span = go (tokenAt source toks t .literal) refl
+    pub literal-same : nodeSpelling (its-node (tokenAt source toks t .literal)) ≡ tokenSpelling (tokenAt source toks t)
+    literal-same = go (tokenAt source toks t .literal) refl
       where
-        other : (l : Literal) → tokenAt source toks t .literal ≡ l → ((x : Float) → l ≡ L.Float x → ⊥) → _≡_ {A = List (ℕ × ℕ)} [] (tokenSpan (tokenAt source toks t))
+        other : (l : Literal) → tokenAt source toks t .literal ≡ l → ((x : Float) → l ≡ L.Float x → ⊥) → _≡_ {A = List (ℕ × ℕ)} [] (tokenSpelling (tokenAt source toks t))
         other l e n = rw (ne-eqb (tokenAt source toks t .code) code.Float (λ c. let (x, d) = coded .has c in n x (sym e ∙ d)))
 
-        go : (l : Literal) → tokenAt source toks t .literal ≡ l → nodeSpan (its-node l) ≡ tokenSpan (tokenAt source toks t)
+        go : (l : Literal) → tokenAt source toks t .literal ≡ l → nodeSpelling (its-node l) ≡ tokenSpelling (tokenAt source toks t)
         go (L.Bool b) e = other _ e (λ x d. let z : _≡_ {A = ℕ} 0 1 = cc in omega arith)
         go (L.Int z) e = other _ e (λ x d. let z : _≡_ {A = ℕ} 0 1 = cc in omega arith)
         go (L.String at len) e = other _ e (λ x d. let z : _≡_ {A = ℕ} 0 1 = cc in omega arith)
-        go (L.Float x) e = rw (coded .of x e .code)
+        go (L.Float x) e = rw (coded .of x e .coded)
         go L.None e = other _ e (λ x d. let z : _≡_ {A = ℕ} 0 1 = cc in omega arith)
