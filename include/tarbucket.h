@@ -126,8 +126,8 @@ enum {
     TARBUCKET_TOKEN_EOF = 49            /* empty, at n */
 };
 
-/* The version of the tree's words. Since 2 a Float has the span of its token in r and s, which were 0. A caller should compare the header's first word with
- * it: a library of another version may be linked. */
+/* The version of the tree's words. Since 2 a Float has the span of its token in r and s, which were 0. A caller should compare the first word of an accepted
+ * tree with it: a library of another version may be linked. */
 #define TARBUCKET_VERSION 2u
 
 /* The header: the first eight words of `tree`. */

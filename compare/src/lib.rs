@@ -125,8 +125,8 @@ fn fill(src: &[u8], script: &Script, tokens: &mut [u32], text: &mut [u8], tree: 
     assert_eq!(answer.nodes, script.written, "the descent's nodes written are the tree's");
     let (header, records) = tree.split_at_mut(words::HEADER);
     assert!(layout.nodes.len() <= records.len() / 8, "the tree's area holds its nodes");
-    let [nodes, root] = [answer.nodes, answer.nodes - 1];
-    header.copy_from_slice(&[words::VERSION, nodes, answer.tokens, answer.text, 8, root, answer.openings, n]);
+    let nodes = answer.nodes;
+    header.copy_from_slice(&[words::VERSION, nodes, answer.tokens, answer.text, 8, nodes - 1, answer.openings, n]);
     for (words, record) in records.chunks_exact_mut(8).zip(&layout.nodes) {
         words.copy_from_slice(record);
     }

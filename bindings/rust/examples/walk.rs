@@ -71,6 +71,7 @@ fn value(node: Node, out: &mut impl Write) -> io::Result<()> {
     }
 }
 
+/// A space, and these bytes.
 fn put(bytes: &[u8], out: &mut impl Write) -> io::Result<()> {
     out.write_all(b" ")?;
     out.write_all(bytes)

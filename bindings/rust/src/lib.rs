@@ -131,6 +131,10 @@ impl Reader {
     }
 
     /// Reads a source. The tree borrows the reader and the source.
+    ///
+    /// # Panics
+    ///
+    /// Where the static library that was linked writes trees of another version than [`VERSION`].
     pub fn read<'a>(&'a mut self, src: &'a [u8]) -> Result<Tree<'a>, Error> {
         self.filled = 0;
         if src.len() > LONGEST {
@@ -144,7 +148,7 @@ impl Reader {
         self.filled = token_words(counts.tokens as usize);
         let text = &self.text[..counts.text as usize];
         let words = &self.tree[..8 + 8 * counts.nodes as usize];
-        Ok(Tree::new(src, text, words).expect("a static library of the version of these bindings"))
+        Ok(Tree::new(src, text, words).unwrap_or_else(|bad| panic!("the static library does not fit these bindings: {bad}")))
     }
 
     /// Code, start and end of each token of the source that was read last, Eof last. Empty where it was refused.

@@ -1,5 +1,6 @@
 use crate::kind::{BinaryOp, Kind, UnaryOp};
 use crate::tree::{List, Node};
+use std::ops::Range;
 
 /// A node by its kind, with its parts. Names are bytes of the source, UTF-8 in any script and not normalised: two are the same where their bytes are. A
 /// String's value is the decoded bytes; a Float's is the double nearest to what is written, which [`Node::spelling`] has.
@@ -99,7 +100,12 @@ impl<'a> Node<'a> {
     /// assert_eq!(node.text(), b"(0.10)");
     /// ```
     pub fn spelling(&self) -> Option<&'a [u8]> {
+        Some(&self.tree().source()[self.spelling_span()?])
+    }
+
+    /// The bytes of the source in which a Float is written. None where the node is no Float.
+    pub fn spelling_span(&self) -> Option<Range<usize>> {
         let w = self.words();
-        (self.kind() == Kind::Float).then(|| self.bytes(w[6], w[7]))
+        (self.kind() == Kind::Float).then(|| w[6] as usize..w[7] as usize)
     }
 }

@@ -155,7 +155,7 @@ fn words_of(src: &[u8]) -> (Vec<u8>, Vec<u32>) {
 }
 
 #[test]
-fn words_that_are_no_tree() {
+fn other_words_are_refused_or_readable() {
     for src in [&b"a\n"[..], b"(0.10)\n"] {
         let (text, mut words) = words_of(src);
         assert!(Tree::new(src, &text, &words).is_ok());
@@ -178,7 +178,7 @@ fn words_of_another_version() {
     let (text, mut words) = words_of(b"(0.10)");
     for version in [0, 1, 3] {
         words[0] = version;
-        assert_eq!(Tree::new(b"(0.10)", &text, &words).unwrap_err(), BadTree(None), "{version}");
+        assert_eq!(Tree::new(b"(0.10)", &text, &words).unwrap_err(), BadTree::Version(version));
     }
 }
 

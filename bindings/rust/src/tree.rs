@@ -11,15 +11,23 @@ pub struct Tree<'a> {
     words: &'a [u32],
 }
 
-/// Words that are no tree: the first node that has a wrong field, or none where the header is wrong or has another version.
+/// Why words are no tree.
 #[derive(Clone, Copy, Debug, PartialEq, Eq)]
-pub struct BadTree(pub Option<u32>);
+pub enum BadTree {
+    /// The header has this version, and not [`VERSION`].
+    Version(u32),
+    /// The header does not fit the source, the text and the number of words.
+    Header,
+    /// This node is the first with a wrong field.
+    Node(u32),
+}
 
 impl fmt::Display for BadTree {
     fn fmt(&self, f: &mut fmt::Formatter<'_>) -> fmt::Result {
-        match self.0 {
-            Some(k) => write!(f, "node {k} has a wrong field"),
-            None => write!(f, "the header is wrong, or of another version than {VERSION}"),
+        match self {
+            BadTree::Version(version) => write!(f, "the words of the tree are of version {version}, not of {VERSION}"),
+            BadTree::Header => write!(f, "the tree's header is wrong"),
+            BadTree::Node(k) => write!(f, "node {k} of the tree has a wrong field"),
         }
     }
 }
@@ -32,15 +40,18 @@ impl<'a> Tree<'a> {
     pub fn new(src: &'a [u8], text: &'a [u8], words: &'a [u32]) -> Result<Tree<'a>, BadTree> {
         let tree = Tree { src, text, words };
         if words.len() < 16 || words.len() % 8 != 0 {
-            return Err(BadTree(None));
+            return Err(BadTree::Header);
+        }
+        if words[0] != VERSION {
+            return Err(BadTree::Version(words[0]));
         }
         let nodes = (words.len() / 8 - 1) as u32;
         let header = [VERSION, nodes, words[2], text.len() as u32, 8, nodes - 1, words[6], src.len() as u32];
         if words[..8] != header || words[8 * nodes as usize] != Kind::Program as u32 {
-            return Err(BadTree(None));
+            return Err(BadTree::Header);
         }
         match (0..nodes).find(|&k| !tree.fits(k)) {
-            Some(k) => Err(BadTree(Some(k))),
+            Some(k) => Err(BadTree::Node(k)),
             None => Ok(tree),
         }
     }

@@ -129,7 +129,7 @@ impl Figures {
         }
         println!("ASCII only: {}", total.ascii);
         println!("accepted {}, with a name beyond ASCII: {}", total.numbers[0], total.named);
-        println!("of these with a Float in parentheses: {}, as a target: {}", total.grouped, total.targets);
+        println!("accepted with a Float in parentheses: {}, as a target: {}", total.grouped, total.targets);
         println!("refused by 9 at a character beyond ASCII: {}", total.stray);
         for (number, count) in total.numbers.iter().enumerate().filter(|&(number, _)| number != 0 && number != NEVER as usize) {
             println!("refused by {number:>2}: {count}");

@@ -1,6 +1,7 @@
 //! A Float's own token.
 use super::words_of;
 use crate::*;
+use std::ops::Range;
 
 #[test]
 fn spellings_outside_the_source() {
@@ -14,20 +15,20 @@ fn spellings_outside_the_source() {
         for bad in [[r, r - 1], [n, s], [r, n + 1], [n + 1, n + 1], [r, NONE], [NONE, s], [NONE, NONE]] {
             let mut other = words.clone();
             other[at + 6..at + 8].copy_from_slice(&bad);
-            assert_eq!(Tree::new(src, &text, &other).unwrap_err(), BadTree(Some(float)), "{bad:?}");
+            assert_eq!(Tree::new(src, &text, &other).unwrap_err(), BadTree::Node(float), "{bad:?}");
         }
     }
 }
 
-/// Each Float of a source from the root down: its spelling, where that starts, and the node's span.
-fn spellings(src: &str) -> Vec<(String, usize, std::ops::Range<usize>)> {
+/// Each Float of a source from the root down: its spelling, where that stands, and the node's span.
+fn spellings(src: &str) -> Vec<(String, Range<usize>, Range<usize>)> {
     let mut reader = Reader::new();
     let tree = reader.read(src.as_bytes()).unwrap();
     let spelled = |node: Node| {
         let spelling = std::str::from_utf8(node.spelling()?).unwrap();
         // Rust's own reading of the same digits
         assert!(matches!(node.shape(), Shape::Float(x) if spelling.parse() == Ok(x)), "{spelling}");
-        Some((spelling.to_string(), node.words()[6] as usize, node.span()))
+        Some((spelling.to_string(), node.spelling_span()?, node.span()))
     };
     tree.walk().filter_map(|(_, node)| spelled(node)).collect()
 }
@@ -53,7 +54,8 @@ fn a_float_keeps_its_spelling() {
         ("x = [True, 10, '0.10', None, y.z]", vec![]),
     ];
     for (src, expected) in cases {
-        let expected: Vec<_> = expected.into_iter().map(|(spelling, start, span)| (spelling.to_string(), start, span)).collect();
+        let spelled = |(spelling, start, span): (&str, usize, _)| (spelling.to_string(), start..start + spelling.len(), span);
+        let expected: Vec<_> = expected.into_iter().map(spelled).collect();
         assert_eq!(spellings(src), expected, "{src}");
     }
 }
@@ -84,6 +86,6 @@ k = lambda a, b: {1: 'one', a: [b, 1.x(2)]}, {3, 4}, t{5}
         assert!(tree.nodes().any(|node| node.words()[0] == kind), "no node of kind {kind}");
     }
     for node in tree.nodes() {
-        assert_eq!(node.spelling(), None, "{node:?}");
+        assert_eq!((node.spelling(), node.spelling_span()), (None, None), "{node:?}");
     }
 }
