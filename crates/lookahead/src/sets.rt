@@ -32,7 +32,7 @@ pub fn begins_f(symbol: u32) -> bool
     }
 }
 
-// What begins U, and O to P: a sign too.
+// What begins U, and O to P: a sign, or what begins F.
 pub fn begins_u(symbol: u32) -> bool
     ensures { λ r. ⌜ r ≡ mem symbol firstU ⌝ }
 {
@@ -40,40 +40,17 @@ pub fn begins_u(symbol: u32) -> bool
         token::NOT => true,
         token::PLUS => true,
         token::MINUS => true,
-        token::NONE => true,
-        token::BOOL => true,
-        token::INT => true,
-        token::STRING => true,
-        token::IDENTIFIER => true,
-        token::FLOAT => true,
-        token::LPAREN => true,
-        token::LBRACKET => true,
-        token::LBRACE => true,
-        crate::TEE => true,
-        _ => false,
+        _ => begins_f(symbol),
     }
 }
 
-// What begins E: lambda too.
+// What begins E: lambda, or what begins U.
 pub fn begins_e(symbol: u32) -> bool
     ensures { λ r. ⌜ r ≡ mem symbol firstE ⌝ }
 {
     match symbol {
         token::LAMBDA => true,
-        token::NOT => true,
-        token::PLUS => true,
-        token::MINUS => true,
-        token::NONE => true,
-        token::BOOL => true,
-        token::INT => true,
-        token::STRING => true,
-        token::IDENTIFIER => true,
-        token::FLOAT => true,
-        token::LPAREN => true,
-        token::LBRACKET => true,
-        token::LBRACE => true,
-        crate::TEE => true,
-        _ => false,
+        _ => begins_u(symbol),
     }
 }
 
