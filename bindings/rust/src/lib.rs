@@ -134,7 +134,7 @@ impl Reader {
     ///
     /// # Panics
     ///
-    /// Where the static library that was linked writes trees of another version than [`VERSION`].
+    /// Where the static library that was linked writes what [`Tree::new`] refuses, such as trees of another version than [`VERSION`].
     pub fn read<'a>(&'a mut self, src: &'a [u8]) -> Result<Tree<'a>, Error> {
         self.filled = 0;
         if src.len() > LONGEST {

@@ -183,6 +183,27 @@ fn words_of_another_version() {
 }
 
 #[test]
+fn words_that_are_no_tree() {
+    let src = b"(0.10)";
+    let (text, words) = words_of(src);
+    let wrong = |words: &[u32]| Tree::new(src, &text, words).unwrap_err();
+    for len in [0, 1, 8, 15, 17, words.len() - 8, words.len() - 1] {
+        assert_eq!(wrong(&words[..len]), BadTree::Header, "{len}");
+    }
+    // all of the header but T and the rules opened, which the words do not tell
+    for i in [1, 3, 4, 5, 7] {
+        let mut other = words.clone();
+        other[i] += 1;
+        assert_eq!(wrong(&other), BadTree::Header, "{i}");
+    }
+    // the root is an Expr
+    let mut other = words.clone();
+    let root = words.len() - 8;
+    other[root] = Kind::Expr as u32;
+    assert_eq!(wrong(&other), BadTree::Node(words[5]));
+}
+
+#[test]
 fn one_version() {
     let header = include_str!("../../../include/tarbucket.h");
     let code = include_str!("../../../crates/reader/src/lib.rt");

@@ -18,7 +18,7 @@ pub enum BadTree {
     Version(u32),
     /// The header does not fit the source, the text and the number of words.
     Header,
-    /// This node is the first with a wrong field.
+    /// This node is the first with a wrong field, or the root, which is no Program.
     Node(u32),
 }
 
@@ -27,7 +27,7 @@ impl fmt::Display for BadTree {
         match self {
             BadTree::Version(version) => write!(f, "the words of the tree are of version {version}, not of {VERSION}"),
             BadTree::Header => write!(f, "the tree's header is wrong"),
-            BadTree::Node(k) => write!(f, "node {k} of the tree has a wrong field"),
+            BadTree::Node(k) => write!(f, "node {k} of the tree is wrong"),
         }
     }
 }
@@ -39,19 +39,19 @@ impl<'a> Tree<'a> {
     /// can fail; among other things, that a field's node has a lower number than the node itself and a next node a higher one, which no law says yet.
     pub fn new(src: &'a [u8], text: &'a [u8], words: &'a [u32]) -> Result<Tree<'a>, BadTree> {
         let tree = Tree { src, text, words };
-        if words.len() < 16 || words.len() % 8 != 0 {
-            return Err(BadTree::Header);
-        }
-        if words[0] != VERSION {
-            return Err(BadTree::Version(words[0]));
+        match words.first() {
+            Some(&version) if version != VERSION => return Err(BadTree::Version(version)),
+            _ if words.len() < 16 || words.len() % 8 != 0 => return Err(BadTree::Header),
+            _ => {}
         }
         let nodes = (words.len() / 8 - 1) as u32;
-        let header = [VERSION, nodes, words[2], text.len() as u32, 8, nodes - 1, words[6], src.len() as u32];
-        if words[..8] != header || words[8 * nodes as usize] != Kind::Program as u32 {
+        let header = [words[0], nodes, words[2], text.len() as u32, 8, nodes - 1, words[6], src.len() as u32];
+        if words[..8] != header {
             return Err(BadTree::Header);
         }
         match (0..nodes).find(|&k| !tree.fits(k)) {
             Some(k) => Err(BadTree::Node(k)),
+            None if tree.root().kind() != Kind::Program => Err(BadTree::Node(nodes - 1)),
             None => Ok(tree),
         }
     }

@@ -40,7 +40,7 @@ pub not-e : (a : Bool) → T (not a) → T a → ⊥
 not-e true n t = n
 not-e false n t = t
 
-pub mem-one : (x c : ℕ) → T (mem x (c ∷ [])) → x ≡ c
+mem-one : (x c : ℕ) → T (mem x (c ∷ [])) → x ≡ c
 mem-one x c t = ⊎-elim (λ h. eqb→eq x c h) (λ h. absurd h) (or-e (eqb x c) false t)
 
 mem-left : (x : ℕ) (a b : List ℕ) → T (mem x a) → T (mem x (a ++ b))

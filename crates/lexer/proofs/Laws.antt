@@ -1,6 +1,6 @@
 -- What holds of every token list: its length, its spans, its Eof, its levels, its codes and its literals. The crates above cite the laws at the
--- end, but for `tokens-ascend`, `tokens-balance`, `tokens-coded` and `tokens-held`, which are promises to people (docs/SENTENCES.md); each is an induction
--- on the derivation of proofs/Promise.antt. What they say stands in proofs/Properties.antt.
+-- end, but for `tokens-ascend`, `tokens-balance` and `tokens-coded`, which are promises to people (docs/SENTENCES.md), and `tokens-held`, of which with
+-- `tokens-valued` comes `tokens-floats`; the others are inductions on the derivation of proofs/Promise.antt. What they say stands in proofs/Properties.antt.
 -- Assumes nothing.
 use mathlib.Core.Path.{_≡_, refl, sym, ap, _∙_, subst}
 use mathlib.Core.Bool.{Bool, true, false, cond}

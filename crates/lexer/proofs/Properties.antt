@@ -89,10 +89,11 @@ Held text code l (L.String at n) = (at + n ≤ length text) × (part text at (at
 Held text code l (L.Float x) = FloatOf code l x
 Held text code l L.None = Unit {0}
 
+-- the same of a token of the source s
 abbrev pub InText : List ℕ → List ℕ → Token → Type 0
 InText s text t = Held text (t .code) (bytesOf s t) (t .literal)
 
--- where the literal is a Float, code and bytes are so, and a token with Float's code has such a literal
+-- where the literal is a Float, code and bytes are as `FloatOf` says, and a token with Float's code has such a literal
 pub record FloatCoded (s : List ℕ) (t : Token) : Type 0 where
   pub of : (x : Float) → t .literal ≡ L.Float x → FloatOf (t .code) (bytesOf s t) x
   pub has : t .code ≡ Code.Float → (x : Float) × (t .literal ≡ L.Float x)

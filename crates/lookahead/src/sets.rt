@@ -67,7 +67,7 @@ pub fn begins_simple(symbol: u32) -> bool
     }
 }
 
-// What begins Line: a keyword of a statement with a Block too.
+// What begins Line: class, def, if, while or for, or what begins Simple.
 pub fn begins_line(symbol: u32) -> bool
     ensures { λ r. ⌜ r ≡ mem symbol firstLine ⌝ }
 {

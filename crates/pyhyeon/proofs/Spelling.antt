@@ -114,23 +114,23 @@ module _ (source : List ℕ) (toks : List Token) where
   -- the nodes of k′ have the Floats of those of k
   record Along (k k′ : Kept) : Type 0 where
     each : ((i : ℕ) → FloatSpelled source (getD (k .nodes) i blank)) → (i : ℕ) → FloatSpelled source (getD (k′ .nodes) i blank)
-    spans : flatMap nodeSpelling (k′ .nodes) ≡ flatMap nodeSpelling (k .nodes)
+    floats-same : flatMap nodeSpelling (k′ .nodes) ≡ flatMap nodeSpelling (k .nodes)
 
   then : {a b c : Kept} → Along a b → Along b c → Along a c
-  then f g = record { each = λ h. g .each (f .each h); spans = g .spans ∙ f .spans }
+  then f g = record { each = λ h. g .each (f .each h); floats-same = g .floats-same ∙ f .floats-same }
 
   same : (k : Kept) → Along k k
-  same k = record { each = λ h. h; spans = refl }
+  same k = record { each = λ h. h; floats-same = refl }
 
   -- the shapes of an action: no node, a node that is no Float, and another next or span of a node
   put-along : (i : ℕ) (v : Value) (k : Kept) → Along k (put i v k)
-  put-along i v k = record { each = λ h. h; spans = refl }
+  put-along i v k = record { each = λ h. h; floats-same = refl }
 
   write-along : (i : ℕ) (x : Node) (k : Kept) → T (not (eqb (x .kind) kind.Float)) → Along k (write i x k)
-  write-along i x k t = record { each = λ h. added source (k .nodes) x h (λ e. absurd (rw e at t)); spans = floats-write (k .nodes) x t }
+  write-along i x k t = record { each = λ h. added source (k .nodes) x h (λ e. absurd (rw e at t)); floats-same = floats-write (k .nodes) x t }
 
   change-along : (m : ℕ) (f : Node → Node) (k : Kept) → (FloatSpelled source (nth m k) → FloatSpelled source (f (nth m k))) → nodeSpelling (f (nth m k)) ≡ nodeSpelling (nth m k) → Along k (change m f k)
-  change-along m f k g e = record { each = λ h. replaced source (k .nodes) m _ h (g (h m)); spans = floats-set (k .nodes) m _ e }
+  change-along m f k g e = record { each = λ h. replaced source (k .nodes) m _ h (g (h m)); floats-same = floats-set (k .nodes) m _ e }
 
   wrap-along : (c f : ℕ) (k : Kept) → Along k (wrap source toks c f k)
   unfolding wrap
@@ -204,7 +204,7 @@ module _ (source : List ℕ) (toks : List Token) where
     acted a t s h =
         let f = act-along a t (s .kept) in
         let e = act-at source toks a (s .kept) in
-        record { left = rw e (h .left); each = f .each (h .each); in-order = rw e (f .spans ∙ h .in-order) }
+        record { left = rw e (h .left); each = f .each (h .each); in-order = rw e (f .floats-same ∙ h .in-order) }
 
     -- a token and its literal
     literal-taken : (t : ℕ) (l : List ℕ) (k : Kept) → SoFar (record { rest = t ∷ l; kept = k }) → SoFar (record { rest = l; kept = perform source toks literal (past t k) })

@@ -29,7 +29,7 @@ pub record Spelled (source : List ℕ) (p q r s : ℕ) : Type 0 where
 abbrev pub FloatSpelled : List ℕ → Node → Type 0
 FloatSpelled source n = n .kind ≡ kind.Float → Spelled source (n .p) (n .q) (n .r) (n .s)
 
--- where a Float is spelled: start and end of its token, r and s of its node; nowhere, where it is none
+-- where a Float is spelled: a token from start to end, a node from r to s; what is no Float, nowhere
 abbrev pub tokenSpelling : Token → List (ℕ × ℕ)
 tokenSpelling t = cond (eqb (t .code) code.Float) ((t .start, t .end) ∷ []) []
 
