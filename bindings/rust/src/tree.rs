@@ -39,10 +39,11 @@ impl<'a> Tree<'a> {
     /// can fail; among other things, that a field's node has a lower number than the node itself and a next node a higher one, which no law says yet.
     pub fn new(src: &'a [u8], text: &'a [u8], words: &'a [u32]) -> Result<Tree<'a>, BadTree> {
         let tree = Tree { src, text, words };
-        match words.first() {
-            Some(&version) if version != VERSION => return Err(BadTree::Version(version)),
-            _ if words.len() < 16 || words.len() % 8 != 0 => return Err(BadTree::Header),
-            _ => {}
+        if let Some(&version) = words.first().filter(|&&version| version != VERSION) {
+            return Err(BadTree::Version(version));
+        }
+        if words.len() < 16 || words.len() % 8 != 0 {
+            return Err(BadTree::Header);
         }
         let nodes = (words.len() / 8 - 1) as u32;
         let header = [words[0], nodes, words[2], text.len() as u32, 8, nodes - 1, words[6], src.len() as u32];
