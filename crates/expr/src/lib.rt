@@ -79,7 +79,7 @@ pub fn enter(src: &[u8], toks: &[u32], tree: &mut [u32], left: u32, s: State) ->
     if lookahead::begins_e(lookahead::symbol_at(src, toks, at)) {
         rule_e(src, toks, tree, left, s)
     } else {
-        Parsed::Refused(14, s)
+        Parsed::Refused(16, s)
     }
 }
 
@@ -164,7 +164,7 @@ fn rule_o(src: &[u8], toks: &[u32], tree: &mut [u32], left: u32, s: State) -> Pa
                         st = on;
                     }
                     Behind::Nothing => return Parsed::Node(l, done),
-                    Behind::Missing(on) => return Parsed::Refused(14, on),
+                    Behind::Missing(on) => return Parsed::Refused(16, on),
                 }
             }
             Parsed::Refused(code, after) => return Parsed::Refused(code, after),
@@ -203,7 +203,7 @@ fn rule_a(src: &[u8], toks: &[u32], tree: &mut [u32], left: u32, s: State) -> Pa
                         st = on;
                     }
                     Behind::Nothing => return Parsed::Node(l, done),
-                    Behind::Missing(on) => return Parsed::Refused(14, on),
+                    Behind::Missing(on) => return Parsed::Refused(16, on),
                 }
             }
             Parsed::Refused(code, after) => return Parsed::Refused(code, after),
@@ -242,7 +242,7 @@ fn rule_c(src: &[u8], toks: &[u32], tree: &mut [u32], left: u32, s: State) -> Pa
                         st = on;
                     }
                     Behind::Nothing => return Parsed::Node(l, done),
-                    Behind::Missing(on) => return Parsed::Refused(14, on),
+                    Behind::Missing(on) => return Parsed::Refused(16, on),
                 }
             }
             Parsed::Refused(code, after) => return Parsed::Refused(code, after),
@@ -281,7 +281,7 @@ fn rule_s(src: &[u8], toks: &[u32], tree: &mut [u32], left: u32, s: State) -> Pa
                         st = on;
                     }
                     Behind::Nothing => return Parsed::Node(l, done),
-                    Behind::Missing(on) => return Parsed::Refused(14, on),
+                    Behind::Missing(on) => return Parsed::Refused(16, on),
                 }
             }
             Parsed::Refused(code, after) => return Parsed::Refused(code, after),
@@ -320,7 +320,7 @@ fn rule_p(src: &[u8], toks: &[u32], tree: &mut [u32], left: u32, s: State) -> Pa
                         st = on;
                     }
                     Behind::Nothing => return Parsed::Node(l, done),
-                    Behind::Missing(on) => return Parsed::Refused(14, on),
+                    Behind::Missing(on) => return Parsed::Refused(16, on),
                 }
             }
             Parsed::Refused(code, after) => return Parsed::Refused(code, after),
@@ -355,7 +355,7 @@ fn rule_u(src: &[u8], toks: &[u32], tree: &mut [u32], left: u32, s: State) -> Pa
             Parsed::Refused(code, after) => Parsed::Refused(code, after),
         }
     } else {
-        Parsed::Refused(14, on)
+        Parsed::Refused(16, on)
     }
 }
 
@@ -555,7 +555,7 @@ fn rest(
     }
 }
 
-// After `{`: `}` at once is a Dict, else the first E decides.
+// After `{`: `}` at once is a Dict, else the first E decides. Either was asked for, so what is neither is refused by 14.
 fn braces(
     src: &[u8],
     toks: &[u32],
@@ -569,17 +569,20 @@ fn braces(
     ensures { λ r. ⌜ Parts (now (src .entry)) (now (toks .entry)) left tables.braces (token (opener .0) ∷ []) a-node s (now (tree .entry)) r (now (tree .exit)) ⌝ }
 {
     let at = s.at;
-    if lookahead::is_symbol(lookahead::symbol_at(src, toks, at), token::RBRACE) {
+    let symbol = lookahead::symbol_at(src, toks, at);
+    if lookahead::is_symbol(symbol, token::RBRACE) {
         let made = expr_leaves::put_empty(toks, tree, ast::DICT, opener, leaves::past(s));
         let n = made.0;
         let after = made.1;
         Parsed::Node(n, after)
-    } else {
-        let inner = enter(src, toks, tree, left, s);
+    } else if lookahead::begins_e(symbol) {
+        let inner = rule_e(src, toks, tree, left, s);
         match inner {
             Parsed::Node(n, after) => brace(src, toks, tree, left, opener, n, after),
             Parsed::Refused(code, after) => Parsed::Refused(code, after),
         }
+    } else {
+        Parsed::Refused(14, s)
     }
 }
 

@@ -65,7 +65,7 @@ place-within src ts bs is = go (descend pyhyeon depth Program 0 (start src ts))
   where
     go : (x : Descent.Answer (machine src ts)) → placeOf (descended src ts x) ≤ length src
     go (Descent.done n s) = omega arith
-    go (Descent.no n s) = starts-within (length src) (s .kept .at) ts (tokens-spanned src ts bs is)
+    go (Descent.no asked n s) = starts-within (length src) (s .kept .at) ts (tokens-spanned src ts bs is)
     go (Descent.deep n s) = starts-within (length src) (s .kept .at) ts (tokens-spanned src ts bs is)
     go Descent.stuck = omega arith
 
@@ -77,7 +77,7 @@ record Placed (src : List ℕ) (r : Answer) : Type 0 where
 by-descent : (n : ℕ) (ts : List Token) (bs : List ℕ) (d : Descended) → placeOf d ≤ n → numbersOf (ofDescent n ts bs d .answer) .place ≤ n
 by-descent n ts bs (Accepted w) h = h
 by-descent n ts bs (TooDeep place w) h = h
-by-descent n ts bs (Misfit place w) h = h
+by-descent n ts bs (Misfit f place w) h = h
 
 by-scan : (src : List ℕ) → numbersOf (ofScan src (tokenList src) .answer) .place ≤ length src
 by-scan src = go (tokenList src) refl

@@ -1,15 +1,16 @@
 -- The trial and the descent agree, part by part.
 -- Assumes nothing.
 use mathlib.Core.Path.{_≡_, refl}
-use mathlib.Core.Bool.{Bool, true, false, not}
+use mathlib.Core.Bool.{Bool, true, false, not, _||_}
 use mathlib.Core.List.{List, [], _∷_, _++_}
 use Prim.Native.Nat.{ℕ, zero, suc}
 use lib.Dec.{T}
 use lib.ListN.{length}
 use Rattle.grammar.specs.Sets.{mem, sees, only, within, apart}
 use Rattle.grammar.specs.Trial.{Machine, St, Out, ok, fail, out, Parser, andThen, orElse, orStay, seqP, altP, loop, manyP, skipP, okIf, takeFrom, takeP, tailP}
-use Rattle.grammar.specs.Descent.{Answer, done, no, deep, Walk, thenD, sameD, seqD, byD, loopD, tailD, manyD, listD}
+use Rattle.grammar.specs.Descent.{Answer, done, no, deep, Walk, thenD, sameD, seqD, byD, orD, loopD, tailD, manyD, listD}
 use Rattle.grammar.proofs.Sets.{Sees, sees-apart, sees-within}
+use Rattle.grammar.proofs.Choice.{decided, chosen}
 use Rattle.grammar.proofs.Begin.{On, on-ok, on-fail, on-out, on-map, Begins, loop-at, tail-at, next-seen, unbegun}
 
 -- What the trial comes to, and what the descent does, where one of K is to stand after.
@@ -17,36 +18,26 @@ use Rattle.grammar.proofs.Begin.{On, on-ok, on-fail, on-out, on-map, Be
 -- or the trial stops before a token that is none of K, and the descent refuses.
 pub data Agree {Act : Type 0} {M : Machine Act} (K : List ℕ) : Out M → Answer M → Type 0 where
   met : {s : St M} (n : ℕ) → Agree K (ok s) (done n s)
-  both-no : {n : ℕ} {s : St M} → Agree K fail (no n s)
+  both-no : {asked : List ℕ} {n : ℕ} {s : St M} → Agree K fail (no asked n s)
   too-deep : {o : Out M} {n : ℕ} {s : St M} → Agree K o (deep n s)
   ran-out : {x : Answer M} → Agree K out x
-  stray : {n : ℕ} {s s₁ : St M} → (Sees K (s .rest) → ⊥) → Agree K (ok s) (no n s₁)
+  stray : {asked : List ℕ} {n : ℕ} {s s₁ : St M} → (Sees K (s .rest) → ⊥) → Agree K (ok s) (no asked n s₁)
 
 module _ {Act : Type 0} {M : Machine Act} where
   pub record Agrees (K : List ℕ) (p : Parser M) (w : Walk M) : Type 0 where
     pub at : (n : ℕ) (s : St M) → Agree K (p s) (w n s)
 
-  refused : {K : List ℕ} {o : Out M} {n : ℕ} {s : St M} → On (λ s′. Sees K (s′ .rest) → ⊥) o → Agree K o (no n s)
+  refused : {K : List ℕ} {o : Out M} {asked : List ℕ} {n : ℕ} {s : St M} → On (λ s′. Sees K (s′ .rest) → ⊥) o → Agree K o (no asked n s)
   refused (on-ok h) = stray h
   refused on-fail = both-no
   refused on-out = ran-out
 
-  -- the token decides
-  by-token : {K set : List ℕ} {o : Out M} (v w : Walk M) (n : ℕ) (s : St M) → (Sees set (s .rest) → Agree K o (v n s)) → ((Sees set (s .rest) → ⊥) → Agree K o (w n s)) →
-      Agree K o (byD (sees set (s .rest)) v w n s)
-  unfolding byD
-  by-token {K} {set} {o} v w n s f g = test (sees set (s .rest)) (λ h. f (record { holds = h })) (λ h. g (λ k. h (k .holds)))
-    where
-      test : (b : Bool) → (T b → Agree K o (v n s)) → ((T b → ⊥) → Agree K o (w n s)) → Agree K o (byD b v w n s)
-      test true f g = f tt
-      test false f g = g (λ h. h)
-
   -- no decision
-  pub agrees-same : {K : List ℕ} (p : Parser M) → Agrees K p (λ n s. sameD (p s) n s)
+  pub agrees-same : {K : List ℕ} (set : List ℕ) (p : Parser M) → Agrees K p (λ n s. sameD set (p s) n s)
   unfolding sameD
-  agrees-same {K} p = record { at = λ n s. test n s (p s) }
+  agrees-same {K} set p = record { at = λ n s. test n s (p s) }
     where
-      test : (n : ℕ) (s : St M) (o : Out M) → Agree K o (sameD o n s)
+      test : (n : ℕ) (s : St M) (o : Out M) → Agree K o (sameD set o n s)
       test n s (ok s′) = met n
       test n s fail = both-no
       test n s out = ran-out
@@ -59,8 +50,8 @@ module _ {Act : Type 0} {M : Machine Act} where
   weaken w ran-out = ran-out
   weaken {L} w (stray h) = stray (λ k. h (sees-within L w k))
 
-  pub agrees-call : {A K L : List ℕ} {p : Parser M} {v : Walk M} → Begins A false p → T (within K L) → Agrees L p v → Agrees K p (λ n s. byD (sees A (s .rest)) v no n s)
-  agrees-call {v} bp w hv = record { at = λ n s. by-token v no n s (λ _. weaken w (hv .at n s)) (λ f. refused (on-map (λ s′ h _. h) (unbegun bp tt s f))) }
+  pub agrees-call : {A K L : List ℕ} {p : Parser M} {v : Walk M} → Begins A false p → T (within K L) → Agrees L p v → Agrees K p (λ n s. byD (sees A (s .rest)) v (no A) n s)
+  agrees-call {A} {K} {p = p} {v = v} bp w hv = record { at = λ n s. decided (Agree K (p s)) A v (no A) n s (λ _. weaken w (hv .at n s)) (λ f. refused (on-map (λ s′ h _. h) (unbegun bp tt s f))) }
 
   -- one after the other
   seq-at : {K B : List ℕ} {b : Bool} {q : Parser M} {w : Walk M} {o : Out M} {x : Answer M} → Begins B b q → Agrees K q w → Agree (B ++ only b K) o x → Agree K (andThen o q) (thenD x w)
@@ -90,13 +81,14 @@ module _ {Act : Type 0} {M : Machine Act} where
   alt-right q s on-fail k = k
   alt-right q s on-out k = ran-out
 
-  pub agrees-alt : {K A B : List ℕ} {a b : Bool} {p q : Parser M} {v w : Walk M} → Begins A a p → Begins B b q → T (not a) → T (apart A (B ++ only b K)) → Agrees K p v → Agrees K q w →
-      Agrees K (altP p q) (λ n s. byD (sees A (s .rest)) v w n s)
+  pub agrees-alt : {K A B : List ℕ} {a b : Bool} {p q : Parser M} {v w : Walk M} (asked : List ℕ) → Begins A a p → Begins B b q → T (not a) → T (apart A (B ++ only b K)) → Agrees K p v → Agrees K q w →
+      Agrees K (altP p q) (λ n s. orD (sees A (s .rest)) (b || sees B (s .rest)) asked v w n s)
   unfolding altP
-  agrees-alt {q} {v} {w} bp bq na ap hv hw = record {
-    at = λ n s. by-token v w n s
+  agrees-alt {K} {A} {B} {b = b} {p = p} {q = q} {v = v} {w = w} asked bp bq na ap hv hw = record {
+    at = λ n s. chosen (Agree K (orElse (p s) q s)) A B asked b v w n s
         (λ h. alt-left q s (on-map (λ s′ g k. sees-apart ap h (next-seen g k)) (bq .at s)) (hv .at n s))
-        (λ f. alt-right q s (unbegun bp na s f) (hw .at n s));
+        (λ f _. alt-right q s (unbegun bp na s f) (hw .at n s))
+        (λ f nb g. alt-right q s (unbegun bp na s f) (refused (on-map (λ s′ h _. h) (unbegun bq nb s g))));
   }
 
   -- what is repeated
@@ -119,7 +111,7 @@ module _ {Act : Type 0} {M : Machine Act} where
       (k n : ℕ) (s : St M) → Agree K (loop p k s) (loopD A v k n s)
   unfolding loop loopD seqD
   agree-loop bp na ap hv zero n s = ran-out
-  agree-loop {A} {p} {v} bp na ap hv (suc k) n s = by-token (seqD v (loopD A v k)) done n s
+  agree-loop {K} {A} {p = p} {v = v} bp na ap hv (suc k) n s = decided (Agree K (loop p (suc k) s)) A (seqD v (loopD A v k)) done n s
       (λ h. loop-step v k s bp ap h (agree-loop bp na ap hv k) (hv .at n s))
       (λ f. loop-stop (loop p k) n s (unbegun bp na s f))
 
@@ -191,8 +183,8 @@ module _ {Act : Type 0} {M : Machine Act} where
         (k n : ℕ) (s : St M) → Agree K (andThen (loop item k s) last) (tailD c A v k n s)
     unfolding loop tailD seqD seqP andThen thenD sameD orStay
     agree-tail bp na ap hv zero n s = ran-out
-    agree-tail {K} {A} {v} bp na ap hv (suc k) n s = by-token {set = c ∷ []} _ done n s
-        (λ h. let (s₁, e) = taken (c ∷ []) s h in rw e (by-token {set = A} (seqD v (tailD c A v k)) done n s₁
+    agree-tail {K} {A} {v} bp na ap hv (suc k) n s = decided (Agree K (andThen (loop item (suc k) s) last)) (c ∷ []) _ done n s
+        (λ h. let (s₁, e) = taken (c ∷ []) s h in rw e (decided (Agree K _) A (seqD v (tailD c A v k)) done n s₁
         (λ h₁. member v k s s₁ e bp ap h₁ (agree-tail bp na ap hv k) (hv .at n s₁))
         (λ f. no-member (loop item k) n s s₁ e (unbegun bp na s₁ f))))
         (λ f. rw (not-taken (c ∷ []) s f) (rw (last-none s (not-taken (c ∷ []) s f)) (met n)))

@@ -11,10 +11,10 @@ use lib.ListN.{length}
 use Rattle.grammar.specs.Sets.{mem, sees, apart}
 use Rattle.grammar.specs.Grammar.{Part, skip, act, tok, see, call, _⨾_, _∕_, many, tail}
 use Rattle.grammar.specs.Trial.{Machine, St, skipP, takeFrom, takeP, seeP, actP, enough}
-use Rattle.grammar.specs.Descent.{Plan, Answer, Walk, begins, sameD, seqD, manyD, listD, walk, ruleD, descend}
+use Rattle.grammar.specs.Descent.{Plan, Answer, Walk, null, begins, sameD, seqD, manyD, listD, walk, ruleD, descend}
 use Rattle.grammar.proofs.Sets.{and-l, and-r, and-i, or-l, or-e, mem-apart}
 use Rattle.grammar.proofs.Begin.{On, on-fail, on-if}
-use Rattle.grammar.proofs.Ends.{Ends, ends-done, ends-no, ends-stuck, ends-map, ends-then, ends-by, ends-same, ends-loop, ends-tail, ends-enter}
+use Rattle.grammar.proofs.Ends.{Ends, ends-done, ends-no, ends-stuck, ends-map, ends-then, ends-by, ends-or, ends-same, ends-loop, ends-tail, ends-enter}
 
 -- A token in `due` may only be taken with a `paired` action right behind it; any other token, and an action that is `free`, may stand alone. A paired action may
 -- follow any token.
@@ -80,9 +80,9 @@ module _ {Act : Type 0} {M : Machine Act} {W : Steps Act} {Rel : St M → St M �
   take-along set a [] k = on-fail
   take-along set a (t ∷ ts) k = on-if (mem t set) (record { rest = ts; kept = M .shift t k }) (λ m. keeps .shifted t (mem-apart t set (W .due) a m) ts k)
 
-  take-from : (set : List ℕ) → T (apart set (W .due)) → (n : ℕ) (s : St M) → From s (sameD (takeP set s) n s)
+  take-from : (set : List ℕ) → T (apart set (W .due)) → (n : ℕ) (s : St M) → From s (sameD set (takeP set s) n s)
   unfolding takeP
-  take-from set a n s = ends-same n s (take-along set a (s .rest) (s .kept)) (λ s′ h. h) (keeps .same s)
+  take-from set a n s = ends-same set n s (take-along set a (s .rest) (s .kept)) (λ s′ h. h) (keeps .same s)
 
   -- a token, and the action behind it
   abbrev after : Act → St M → St M
@@ -101,7 +101,7 @@ module _ {Act : Type 0} {M : Machine Act} {W : Steps Act} {Rel : St M → St M �
     where
       go : (q : Part Act R) → T (isAct (W .paired) q) → From s (seqD (walk first env (tok set)) (walk first env q) n s)
       go skip i = absurd i
-      go (act a) i = ends-then (ends-same n s (both-along set a i (s .rest) (s .kept)) (λ s′ h. h) (keeps .same s)) (λ n₁ s₁ h. ends-done h)
+      go (act a) i = ends-then (ends-same set n s (both-along set a i (s .rest) (s .kept)) (λ s′ h. h) (keeps .same s)) (λ n₁ s₁ h. ends-done h)
       go (tok set) i = absurd i
       go (see set) i = absurd i
       go (call r) i = absurd i
@@ -123,7 +123,7 @@ module _ {Act : Type 0} {M : Machine Act} {W : Steps Act} {Rel : St M → St M �
   along-part first he skip t n s = ends-done (keeps .same s)
   along-part first he (act a) t n s = ends-done (keeps .acted a t s)
   along-part first he (tok set) t n s = take-from set t n s
-  along-part first he (see set) t n s = ends-same n s (on-if {P = Rel s} (sees set (s .rest)) s (λ _. keeps .same s)) (λ s′ h. h) (keeps .same s)
+  along-part first he (see set) t n s = ends-same set n s (on-if {P = Rel s} (sees set (s .rest)) s (λ _. keeps .same s)) (λ s′ h. h) (keeps .same s)
   along-part first {env} he (call r) t n s = ends-by (sees (first r) (s .rest)) (env r) _ n s (λ _. he r n s) (ends-no (keeps .same s))
   along-part first {env} he (p ⨾ q) t n s =
       ⊎-elim
@@ -131,8 +131,8 @@ module _ {Act : Type 0} {M : Machine Act} {W : Steps Act} {Rel : St M → St M �
       (λ h. both-from first env p q (and-l (isTok p) (isAct (W .paired) q) h) (and-r (isTok p) (isAct (W .paired) q) h) n s)
       (or-e (made-of W p && made-of W q) (isTok p && isAct (W .paired) q) t)
   along-part first {env} he (p ∕ q) t n s =
-      ends-by (sees (begins first p) (s .rest)) (walk first env p) (walk first env q) n s
-      (λ _. along-part first he p (search and-l) n s) (along-part first he q (search (and-l, and-r)) n s)
+      ends-or _ (sees (begins first p) (s .rest)) (null q || sees (begins first q) (s .rest)) (walk first env p) (walk first env q) n s
+      (λ _. along-part first he p (search and-l) n s) (along-part first he q (search (and-l, and-r)) n s) (keeps .same s)
   along-part first {env} he (many p) t n s =
       ends-loop (begins first p) (walk first env p) (λ n₁ s₁ i. onward i (along-part first he p t n₁ s₁)) (suc (length (s .rest))) n s (keeps .same s)
   along-part first {env} he (tail c p) t n s =

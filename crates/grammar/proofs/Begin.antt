@@ -132,7 +132,7 @@ module _ {Act : Type 0} {M : Machine Act} where
   tail-at c hp k s =
       on-then (loop-at (begins-seq (begins-take (c ∷ [])) hp) k s) (λ s₁ h. on-map (λ s₂ h′. begun-list h h′) ((begins-alt (begins-take (c ∷ [])) begins-skip) .at s₁))
 
-  begins-tail : {A : List ℕ} {a : Bool} {p : Parser M} (c : ℕ) → Begins A a p → Begins (c ∷ []) true (tailP c p)
+  pub begins-tail : {A : List ℕ} {a : Bool} {p : Parser M} (c : ℕ) → Begins A a p → Begins (c ∷ []) true (tailP c p)
   unfolding tailP seqP manyP
   begins-tail c hp = record { at = λ s. tail-at c hp (suc (length (s .rest))) s }
 

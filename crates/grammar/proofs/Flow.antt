@@ -3,6 +3,7 @@
 use mathlib.Core.Path.{_≡_, refl, ap, ap₂, sym, _∙_}
 use mathlib.Core.HLevel.{Discrete}
 use mathlib.Core.Option.{Option, none, some}
+use mathlib.Core.Bool.{_||_}
 use mathlib.Core.List.{List, [], _∷_, _++_, append-assoc}
 use Prim.Native.Nat.{ℕ, zero, suc}
 use native.Mathlib.Omega.{arith}
@@ -10,10 +11,10 @@ use lib.ListN.{length}
 use Rattle.grammar.specs.Sets.{mem, sees}
 use Rattle.grammar.specs.Grammar.{Part, skip, act, tok, see, call, _⨾_, _∕_, many, tail}
 use Rattle.grammar.specs.Trial.{Machine, St, skipP, takeFrom, takeP, seeP, actP, enough}
-use Rattle.grammar.specs.Descent.{Plan, Answer, Walk, begins, sameD, seqD, manyD, listD, walk, ruleD, descend}
+use Rattle.grammar.specs.Descent.{Plan, Answer, Walk, null, begins, sameD, seqD, manyD, listD, walk, ruleD, descend}
 use Rattle.grammar.specs.Flow.{Effect, Effects, bind, where-same, strip, alike, effect, again, flow, Flows}
 use Rattle.grammar.proofs.Begin.{On, on-fail, on-if}
-use Rattle.grammar.proofs.Ends.{Ends, ends-done, ends-no, ends-stuck, ends-map, ends-then, ends-by, ends-same, ends-loop, ends-tail, ends-enter}
+use Rattle.grammar.proofs.Ends.{Ends, ends-done, ends-no, ends-stuck, ends-map, ends-then, ends-by, ends-or, ends-same, ends-loop, ends-tail, ends-enter}
 
 none-is : {A : Type 0} {a : A} → none ≡ some a → ⊥
 none-is e = let z : _≡_ {A = ℕ} 0 1 = cc in omega arith
@@ -84,9 +85,9 @@ module _ {S : Type 0} (same : Discrete S) where
     take-same set [] k = on-fail
     take-same set (t ∷ ts) k = on-if {P = λ s′. sorts (s′ .kept) ≡ sorts k} (mem t set) (record { rest = ts; kept = M .shift t k }) (λ _. shifts t k)
 
-    take-leaves : {σ : List S} (set : List ℕ) (n : ℕ) (s : St M) → sorts (s .kept) ≡ σ → Leaves σ (sameD (takeP set s) n s)
+    take-leaves : {σ : List S} (set : List ℕ) (n : ℕ) (s : St M) → sorts (s .kept) ≡ σ → Leaves σ (sameD set (takeP set s) n s)
     unfolding takeP
-    take-leaves set n s h = ends-same n s (take-same set (s .rest) (s .kept)) (λ s′ e. e ∙ h) tt
+    take-leaves set n s h = ends-same set n s (take-same set (s .rest) (s .kept)) (λ s′ e. e ∙ h) tt
 
     -- an effect, upon what lies below
     upon : (e : Effect S) (σ σ′ : List S) (τ : List S) {l : List S} → effect same e σ ≡ some σ′ → l ≡ σ ++ τ → (τ′ : List S) × (l ≡ e .takes ++ τ′) × (e .leaves ++ τ′ ≡ σ′ ++ τ)
@@ -101,7 +102,7 @@ module _ {S : Type 0} (same : Discrete S) where
     leaves-part he (act a) σ σ′ f τ n s h = let (τ′, p, q) = upon (F .of-act a) σ σ′ τ f h in ends-done (acts a τ′ (s .kept) p ∙ q)
     leaves-part he (tok set) σ σ′ f τ n s h = take-leaves set n s (h ∙ ap (λ (x : List S). x ++ τ) (some-is f))
     leaves-part he (see set) σ σ′ f τ n s h =
-        ends-same n s (on-if {P = λ s′. sorts (s′ .kept) ≡ σ′ ++ τ} (sees set (s .rest)) s (λ _. h ∙ ap (λ (x : List S). x ++ τ) (some-is f))) (λ s′ e. e) tt
+        ends-same set n s (on-if {P = λ s′. sorts (s′ .kept) ≡ σ′ ++ τ} (sees set (s .rest)) s (λ _. h ∙ ap (λ (x : List S). x ++ τ) (some-is f))) (λ s′ e. e) tt
     leaves-part {env} he (call r) σ σ′ f τ n s h =
         let (τ′, p, q) = upon (F .of-rule r) σ σ′ τ f h in
         ends-by (sees (G .first r) (s .rest)) (env r) _ n s (λ _. ends-map (λ n₁ s₁ e. e ∙ q) (λ n₁ s₁ e. e) (he r τ′ n s p)) (ends-no tt)
@@ -110,7 +111,7 @@ module _ {S : Type 0} (same : Discrete S) where
         ends-then (leaves-part he p σ ρ g τ n s h) (λ n₁ s₁ e. leaves-part he q ρ σ′ k τ n₁ s₁ e)
     leaves-part {env} he (p ∕ q) σ σ′ f τ n s h =
         let (g, k) = both-is (flow same F p σ) (flow same F q σ) f in
-        ends-by (sees (begins (G .first) p) (s .rest)) (walk (G .first) env p) (walk (G .first) env q) n s (λ _. leaves-part he p σ σ′ g τ n s h) (leaves-part he q σ σ′ k τ n s h)
+        ends-or _ (sees (begins (G .first) p) (s .rest)) (null q || sees (begins (G .first) q) (s .rest)) (walk (G .first) env p) (walk (G .first) env q) n s (λ _. leaves-part he p σ σ′ g τ n s h) (leaves-part he q σ σ′ k τ n s h) tt
     leaves-part {env} he (many p) σ σ′ f τ n s h =
         let (g, k) = again-is (flow same F p σ) σ f in
         ends-map (λ n₁ s₁ e. e ∙ ap (λ (x : List S). x ++ τ) k) (λ n₁ s₁ e. e)

@@ -1,9 +1,9 @@
--- Refusal 14 is never too late: the tokens before the refused one begin some list that the trial accepts. With `first-misfit` (Top.antt), by which it is
--- never too early, it stands at the first token that does not fit, and at no other.
+-- Refusals 14, 15 and 16 are never too late: the tokens before the refused one begin some list that the trial accepts. With `first-misfit` (Top.antt), by
+-- which they are never too early, they stand at the first token that does not fit, and at no other.
 -- Assumes nothing.
 use mathlib.Core.Path.{_≡_, refl, ap, sym, subst, _∙_}
 use mathlib.Core.Bool.{Bool, true}
-use mathlib.Core.List.{List, [], _∷_, _++_, append-assoc}
+use mathlib.Core.List.{List, [], _∷_, _++_, append-assoc, append-cancel-left}
 use Prim.Native.Nat.{ℕ, suc}
 use native.Mathlib.Omega.{arith}
 use lib.Dec.{T}
@@ -16,6 +16,7 @@ use Rattle.grammar.specs.Misfit.{every, Accepts, Misfit}
 use Rattle.grammar.proofs.Sets.{Sees, and-i}
 use Rattle.grammar.proofs.Enough.{parse-is}
 use Rattle.grammar.proofs.Reading.{Reads}
+use Rattle.grammar.proofs.Asking.{Refuses}
 use Rattle.grammar.proofs.Course.{every-both, offered, Finish, refused-course}
 use Rattle.grammar.proofs.Led.{of-led, reads-led}
 use Rattle.grammar.proofs.Top.{Language, good, same-parse, first-misfit}
@@ -40,36 +41,46 @@ starts-alike (x ∷ a) (y ∷ b) c d e h = let f : x ≡ y = cc in let g : a ++ 
 
 module _ {Act R : Type 0} {plain : R → Part Act R} {G : Plan Act R} {start : R} (L : Language plain G start)
     (isToken : ℕ → Bool) (height : R → ℕ) (tested : (r : R) → T (complete isToken G height r)) (last : T (offers isToken (G .follow start))) {M : Machine Act} where
-  -- what can be finished is accepted, with a token behind it that can stand after the whole
-  accepted-before : (w : List ℕ) (k : M .Kept) (f : Finish isToken (G .follow start) (Reads G (G .body start)) w) (l : List ℕ) → Sees (G .follow start) l → Accepts M plain start k (w ++ (f .rest ++ l))
-  accepted-before w k f l h =
-      let (k₁, e) = of-led (rw append-assoc at (reads-led {M = M} G (good L) (G .follow start) (G .rank start) (good L start .decided) (good L start .lower) (f .reads l h) k)) in
-      (record { rest = l; kept = k₁ }, same-parse L start (record { rest = w ++ (f .rest ++ l); kept = k }) ∙ parse-is G (good L) start (record { rest = w ++ (f .rest ++ l); kept = k }) ∙ e)
+  -- what is read is accepted, with a token behind it that can stand after the whole
+  pub accepted-before : (w : List ℕ) (k : M .Kept) (c : List ℕ) → ((l : List ℕ) → Sees (G .follow start) l → Reads G (G .body start) (w ++ c) l) → (l : List ℕ) → Sees (G .follow start) l → Accepts M plain start k (w ++ (c ++ l))
+  accepted-before w k c f l h =
+      let (k₁, e) = of-led (rw append-assoc at (reads-led {M = M} G (good L) (G .follow start) (G .rank start) (good L start .decided) (good L start .lower) (f l h) k)) in
+      (record { rest = l; kept = k₁ }, same-parse L start (record { rest = w ++ (c ++ l); kept = k }) ∙ parse-is G (good L) start (record { rest = w ++ (c ++ l); kept = k }) ∙ e)
 
+  -- so is what can be finished
   accepted : (w : List ℕ) (k : M .Kept) (f : Finish isToken (G .follow start) (Reads G (G .body start)) w) → (c : List ℕ) × T (every isToken c) × Accepts M plain start k (w ++ c)
   accepted w k f =
       let (t, m, i) = offered isToken (G .follow start) last in
-      (f .rest ++ (t ∷ []), every-both isToken (f .rest) (t ∷ []) (f .are) (and-i (isToken t) true i tt), accepted-before w k f (t ∷ []) (record { holds = m }))
+      (f .rest ++ (t ∷ []), every-both isToken (f .rest) (t ∷ []) (f .are) (and-i (isToken t) true i tt), accepted-before w k (f .rest) (f .reads) (t ∷ []) (record { holds = m }))
 
   -- The descent refuses s at s₁, having taken the tokens w: then w, with more that are tokens, is accepted.
-  pub not-late : (room n m : ℕ) (s s₁ : St M) → descend G room start n s ≡ no m s₁ → (w c : List ℕ) × (s .rest ≡ w ++ s₁ .rest) × T (every isToken c) × Accepts M plain start (s .kept) (w ++ c)
+  pub not-late : {asked : List ℕ} (room n m : ℕ) (s s₁ : St M) → descend G room start n s ≡ no asked m s₁ → (w c : List ℕ) × (s .rest ≡ w ++ s₁ .rest) × T (every isToken c) × Accepts M plain start (s .kept) (w ++ c)
   not-late room n m s s₁ e =
-      let (w, e₁, f) = refused-course isToken G (good L) height tested room start n m s s₁ e in
+      let (w, e₁, f, x) = refused-course isToken G (good L) height tested room start n m s s₁ e in
       let (c, i, a) = accepted w (s .kept) f in
       (w, c, e₁, i, a)
 
-  -- Refusal 14 stands at the first token that does not fit. The descent refuses w, t and then v at t, as so many tokens are left.
-  pub at-misfit : (room n m : ℕ) (w : List ℕ) (t : ℕ) (v : List ℕ) (k : M .Kept) (s₁ : St M) → descend G room start n (record { rest = w ++ (t ∷ v); kept = k }) ≡ no m s₁ →
-      length (s₁ .rest) ≡ suc (length v) → Misfit isToken (Accepts M plain start k) w t
-  at-misfit room n m w t v k s₁ e left =
-      let (w₁, c, e₁, i, a) = not-late room n m (record { rest = w ++ (t ∷ v); kept = k }) s₁ e in
-      let z : w₁ ≡ w = starts-alike w₁ w (s₁ .rest) (t ∷ v) (sym e₁) left in
-      let h : descend G room start n (record { rest = (w ++ (t ∷ [])) ++ v; kept = k }) ≡ no m s₁ = rw append-assoc e in
-      record {
-        rest = c;
-        are = i;
-        fits = subst (λ (y : List ℕ). Accepts M plain start k (y ++ c)) z a;
-        unfit = λ l (s₂, e₂). let f = first-misfit L {M = M} room n m (w ++ (t ∷ [])) v l k s₁ h (omega arith) in
-            let g : parse {M = M} plain start (record { rest = w ++ (t ∷ l); kept = k }) ≡ fail = rw append-assoc at f in
-            absurd (let y : _≡_ {A = ℕ} 0 1 = cc in omega arith);
-      }
+  -- The descent refuses w, t and then v at t, as so many tokens are left.
+  module _ {asked : List ℕ} (room n m : ℕ) (w : List ℕ) (t : ℕ) (v : List ℕ) (k : M .Kept) (s₁ : St M) (e : descend G room start n (record { rest = w ++ (t ∷ v); kept = k }) ≡ no asked m s₁) (left : length (s₁ .rest) ≡ suc (length v)) where
+    -- the refusal stands at the first token that does not fit
+    pub at-misfit : Misfit isToken (Accepts M plain start k) w t
+    at-misfit =
+        let (w₁, c, e₁, i, a) = not-late room n m (record { rest = w ++ (t ∷ v); kept = k }) s₁ e in
+        let z : w₁ ≡ w = starts-alike w₁ w (s₁ .rest) (t ∷ v) (sym e₁) left in
+        let h : descend G room start n (record { rest = (w ++ (t ∷ [])) ++ v; kept = k }) ≡ no asked m s₁ = rw append-assoc e in
+        record {
+          rest = c;
+          are = i;
+          fits = subst (λ (y : List ℕ). Accepts M plain start k (y ++ c)) z a;
+          unfit = λ l (s₂, e₂). let f = first-misfit L {M = M} room n m (w ++ (t ∷ [])) v l k s₁ h (omega arith) in
+              let g : parse {M = M} plain start (record { rest = w ++ (t ∷ l); kept = k }) ≡ fail = rw append-assoc at f in
+              absurd (let y : _≡_ {A = ℕ} 0 1 = cc in omega arith);
+        }
+
+    -- and what the rule asks for there is what was asked for
+    pub at-refusal : Refuses G (G .body start) w (t ∷ v) asked
+    at-refusal =
+        let (w₁, e₁, f, x) = refused-course isToken G (good L) height tested room start n m (record { rest = w ++ (t ∷ v); kept = k }) s₁ e in
+        let z : w₁ ≡ w = starts-alike w₁ w (s₁ .rest) (t ∷ v) (sym e₁) left in
+        let y : t ∷ v ≡ s₁ .rest = append-cancel-left w (t ∷ v) (s₁ .rest) (rw z at e₁) in
+        rw (z, ← y) at x

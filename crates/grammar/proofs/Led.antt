@@ -36,7 +36,7 @@ module _ {Act : Type 0} {M : Machine Act} where
   led-else q s (led k) = led k
 
   -- a token that stands next is taken
-  took : (c : ℕ) (l : List ℕ) (k : M .Kept) → takeP {M = M} (c ∷ []) (record { rest = c ∷ l; kept = k }) ≡ ok (record { rest = l; kept = M .shift c k })
+  pub took : (c : ℕ) (l : List ℕ) (k : M .Kept) → takeP {M = M} (c ∷ []) (record { rest = c ∷ l; kept = k }) ≡ ok (record { rest = l; kept = M .shift c k })
   unfolding takeP takeFrom
   took c l k = is-if (mem c (c ∷ [])) (record { rest = l; kept = M .shift c k }) (or-l (eqb c c) false (eqb-refl c))
 
@@ -50,23 +50,23 @@ module _ {Act : Type 0} {M : Machine Act} where
 
   module _ {R : Type 0} (G : Plan Act R) (good : (r : R) → Sound G r) where
     -- the trial of a part of the rules that the descent takes
-    abbrev takeOn : Part Act R → Parser M
+    abbrev pub takeOn : Part Act R → Parser M
     takeOn p = eval (parse (G .body)) p
 
     -- it answers, and takes as many tokens as its table says
-    part-answers : (p : Part Act R) (m : ℕ) (s : St M) → T (low G 100 m p) → Twin (Less (takes (G .least) p) s) (takeOn p s) (takeOn p s)
+    pub part-answers : (p : Part Act R) (m : ℕ) (s : St M) → T (low G 100 m p) → Twin (Less (takes (G .least) p) s) (takeOn p s) (takeOn p s)
     part-answers p m s t = twin-part G (length (s .rest) * 100 + m) (λ r s₁ _. twin-parse G good r s₁) p m s t (omega arith)
 
-    begins-parse : (r : R) → Begins (G .first r) false (parse {M = M} (G .body) r)
+    pub begins-parse : (r : R) → Begins (G .first r) false (parse {M = M} (G .body) r)
     unfolding parse
     begins-parse r = record { at = λ s. begins-rule G good (enough s) r .at s }
 
     -- where no token stands next that can begin it, it fails
-    unfit : (p : Part Act R) (m : ℕ) (s : St M) → T (not (null p)) → T (low G 100 m p) → (Sees (begins (G .first) p) (s .rest) → ⊥) → takeOn p s ≡ fail
+    pub unfit : (p : Part Act R) (m : ℕ) (s : St M) → T (not (null p)) → T (low G 100 m p) → (Sees (begins (G .first) p) (s .rest) → ⊥) → takeOn p s ≡ fail
     unfit p m s n t f = failing (part-answers p m s t) (unbegun (begins-part (G .first) begins-parse p) n s f)
 
     -- once round, and what is repeated goes on from there: no count is left
-    again : (p : Part Act R) (m : ℕ) (s s₁ : St M) → T (low G 100 m p) → 0 < takes (G .least) p → takeOn p s ≡ ok s₁ → manyP (takeOn p) s ≡ manyP (takeOn p) s₁
+    pub again : (p : Part Act R) (m : ℕ) (s s₁ : St M) → T (low G 100 m p) → 0 < takes (G .least) p → takeOn p s ≡ ok s₁ → manyP (takeOn p) s ≡ manyP (takeOn p) s₁
     unfolding manyP loop orStay
     again p m s s₁ t pos e =
         let h : Less (takes (G .least) p) s s₁ = less-of (part-answers p m s t) e in
@@ -77,11 +77,11 @@ module _ {Act : Type 0} {M : Machine Act} where
     unfolding tailP seqP altP manyP loop orStay andThen orElse skipP
     tail-none c p s e = rw (e, e) refl
 
-    tail-one : (c : ℕ) (p : Parser M) (s s₁ : St M) → takeP (c ∷ []) s ≡ ok s₁ → p s₁ ≡ fail → tailP c p s ≡ ok s₁
+    pub tail-one : (c : ℕ) (p : Parser M) (s s₁ : St M) → takeP (c ∷ []) s ≡ ok s₁ → p s₁ ≡ fail → tailP c p s ≡ ok s₁
     unfolding tailP seqP altP manyP loop orStay andThen orElse skipP
     tail-one c p s s₁ e f = rw (e, f, e) refl
 
-    tail-again : (c : ℕ) (p : Part Act R) (s s₁ s₂ : St M) → T (low G 100 100 p) → takeP (c ∷ []) s ≡ ok s₁ → takeOn p s₁ ≡ ok s₂ → tailP c (takeOn p) s ≡ tailP c (takeOn p) s₂
+    pub tail-again : (c : ℕ) (p : Part Act R) (s s₁ s₂ : St M) → T (low G 100 100 p) → takeP (c ∷ []) s ≡ ok s₁ → takeOn p s₁ ≡ ok s₂ → tailP c (takeOn p) s ≡ tailP c (takeOn p) s₂
     unfolding tailP seqP eval takes low andThen
     tail-again c p s s₁ s₂ t e f =
         let h : takeOn (tok (c ∷ []) ⨾ p) s ≡ ok s₂ = rw e f in

@@ -1,6 +1,7 @@
 -- The nodes that the descent's actions write: each token pays for so many, and no action writes what is not paid for.
 -- What is written, what the tokens to come will pay for, and the credit at hand stay below one sum N.
 -- Assumes nothing.
+use mathlib.Core.Bool.{_||_}
 use mathlib.Core.List.{[], _∷_}
 use Prim.Native.Nat.{ℕ, zero, suc, _+_, _-_, _≤_}
 use native.Mathlib.Omega.{arith}
@@ -9,11 +10,11 @@ use lib.ListN.{length}
 use Rattle.grammar.specs.Sets.{sees}
 use Rattle.grammar.specs.Grammar.{Part, skip, act, tok, see, call, _⨾_, _∕_, many, tail}
 use Rattle.grammar.specs.Trial.{Machine, St, skipP, seeP, actP}
-use Rattle.grammar.specs.Descent.{Plan, Walk, begins, sameD, seqD, manyD, listD, walk, ruleD}
+use Rattle.grammar.specs.Descent.{Plan, Walk, null, begins, sameD, seqD, manyD, listD, walk, ruleD}
 use Rattle.grammar.specs.Limits.{Prices, Meter, worth, clean, credit, afford, spare}
 use Rattle.grammar.proofs.Sets.{and-l, and-r}
 use Rattle.grammar.proofs.Begin.{on-if}
-use Rattle.grammar.proofs.Ends.{Ends, ends-done, ends-no, ends-stuck, ends-map, ends-then, ends-by, ends-same, ends-loop, ends-tail, ends-enter}
+use Rattle.grammar.proofs.Ends.{Ends, ends-done, ends-no, ends-stuck, ends-map, ends-then, ends-by, ends-or, ends-same, ends-loop, ends-tail, ends-enter}
 use Rattle.grammar.proofs.Tokens.{Took, takes-one}
 use Rattle.grammar.proofs.Progress.{Modest}
 
@@ -47,8 +48,8 @@ module _ {Act : Type 0} {M : Machine Act} {R : Type 0} (G : Plan Act R) (Q : Pri
   unfolding walk clean credit afford spare skipP actP seeP sameD seqD manyD listD
   wrote-part he N skip c a t n s h = ends-done h
   wrote-part he N (act b) c a t n s h = ends-done {s = record { rest = s .rest; kept = M .run b (s .kept) }} (omega (arith, worth-act b s, leb→le (Q .writes b) c a))
-  wrote-part he N (tok set) c a t n s h = ends-same n s (takes-one (Q .eof) set t s) (λ s′ k. omega (arith, worth-take k)) h
-  wrote-part he N (see set) c a t n s h = ends-same n s (on-if {P = λ s′. worth Q Z s′ + c ≤ N} (sees set (s .rest)) s (λ _. h)) (λ s′ k. k) h
+  wrote-part he N (tok set) c a t n s h = ends-same set n s (takes-one (Q .eof) set t s) (λ s′ k. omega (arith, worth-take k)) h
+  wrote-part he N (see set) c a t n s h = ends-same set n s (on-if {P = λ s′. worth Q Z s′ + c ≤ N} (sees set (s .rest)) s (λ _. h)) (λ s′ k. k) h
   wrote-part {env} he N (call r) c a t n s h =
       let le : Q .needs r ≤ c = leb→le (Q .needs r) c a in
       ends-by (sees (G .first r) (s .rest)) (env r) _ n s
@@ -58,9 +59,10 @@ module _ {Act : Type 0} {M : Machine Act} {R : Type 0} (G : Plan Act R) (Q : Pri
       ends-then (ends-map (λ n₁ s₁ k. k) (λ n₁ s₁ k. omega arith) (wrote-part he N p c (search and-l) (search and-l) n s h))
       (λ n₁ s₁ h₁. ends-map (λ n₂ s₂ k. k) (λ n₂ s₂ k. omega arith) (wrote-part he N q (credit Q c p) (search (and-l, and-r)) (search (and-l, and-r)) n₁ s₁ h₁))
   wrote-part {env} he N (p ∕ q) c a t n s h =
-      ends-by (sees (begins (G .first) p) (s .rest)) (walk (G .first) env p) (walk (G .first) env q) n s
+      ends-or _ (sees (begins (G .first) p) (s .rest)) (null q || sees (begins (G .first) q) (s .rest)) (walk (G .first) env p) (walk (G .first) env q) n s
       (λ _. ends-map (λ n₁ s₁ k. omega arith) (λ n₁ s₁ k. omega arith) (wrote-part he N p c (search and-l) (search and-l) n s h))
       (ends-map (λ n₁ s₁ k. omega arith) (λ n₁ s₁ k. omega arith) (wrote-part he N q c (search (and-l, and-r)) (search (and-l, and-r)) n s h))
+      (omega (arith, spare-in p c))
   wrote-part {env} he N (many p) c a t n s h =
       let le : c ≤ credit Q c p = leb→le c (credit Q c p) (search (and-l, and-r)) in
       ends-loop (begins (G .first) p) (walk (G .first) env p)
@@ -69,7 +71,7 @@ module _ {Act : Type 0} {M : Machine Act} {R : Type 0} (G : Plan Act R) (Q : Pri
   wrote-part {env} he N (tail k p) c a t n s h =
       let le : c ≤ credit Q (c + Q .pay) p = leb→le c (credit Q (c + Q .pay) p) (search (and-l, and-r)) in
       ends-tail {J = λ _ s₁. worth Q Z s₁ + (c + Q .pay) ≤ N} k (begins (G .first) p) (walk (G .first) env p)
-      (λ n₁ s₁ i. ends-same n₁ s₁ (takes-one (Q .eof) (k ∷ []) (search and-l) s₁) (λ s₂ j. omega (arith, worth-take j)) (omega arith))
+      (λ n₁ s₁ i. ends-same (k ∷ []) n₁ s₁ (takes-one (Q .eof) (k ∷ []) (search and-l) s₁) (λ s₂ j. omega (arith, worth-take j)) (omega arith))
       (λ n₁ s₁ j. omega arith)
       (λ n₁ s₁ j. ends-map (λ n₂ s₂ i. omega arith) (λ n₂ s₂ i. omega arith) (wrote-part he N p (c + Q .pay) (search and-l) (search (and-l, and-r)) n₁ s₁ j))
       (suc (length (s .rest))) n s h

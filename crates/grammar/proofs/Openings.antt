@@ -2,7 +2,7 @@
 -- What is opened, and what may still be opened, stay below one sum N.
 -- Assumes nothing.
 use mathlib.Core.Path.{_≡_, refl}
-use mathlib.Core.Bool.{not}
+use mathlib.Core.Bool.{not, _||_}
 use mathlib.Core.List.{List, [], _∷_}
 use Prim.Native.Nat.{ℕ, zero, suc, _+_, _*_, _≤_, _<_}
 use native.Mathlib.Nat.{add-zero, add-suc}
@@ -12,12 +12,12 @@ use lib.ListN.{length}
 use Rattle.grammar.specs.Sets.{mem, sees}
 use Rattle.grammar.specs.Grammar.{Part, skip, act, tok, see, call, _⨾_, _∕_, many, tail}
 use Rattle.grammar.specs.Trial.{Machine, St, skipP, seeP, actP}
-use Rattle.grammar.specs.Descent.{Plan, Walk, begins, sameD, seqD, manyD, listD, walk, ruleD}
+use Rattle.grammar.specs.Descent.{Plan, Walk, null, begins, sameD, seqD, manyD, listD, walk, ruleD}
 use Rattle.grammar.specs.Check.{takes, after, low}
 use Rattle.grammar.specs.Limits.{Prices, before, toCome, ahead, clean}
 use Rattle.grammar.proofs.Sets.{and-l, and-r}
 use Rattle.grammar.proofs.Begin.{on-if}
-use Rattle.grammar.proofs.Ends.{Ends, ends-done, ends-no, ends-stuck, ends-map, ends-then, ends-by, ends-same, ends-loop, ends-tail, ends-enter}
+use Rattle.grammar.proofs.Ends.{Ends, ends-done, ends-no, ends-stuck, ends-map, ends-then, ends-by, ends-or, ends-same, ends-loop, ends-tail, ends-enter}
 use Rattle.grammar.proofs.Tokens.{seen-before, Took, takes-one}
 use Rattle.grammar.proofs.Progress.{Modest}
 
@@ -115,8 +115,8 @@ module _ {Act : Type 0} {M : Machine Act} {R : Type 0} (G : Plan Act R) (Q : Pri
     unfolding walk takes low clean skipP actP seeP sameD seqD manyD listD ahead
     opens-part he skip m l t le n s h = ends-done h
     opens-part he (act a) m l t le n s h = ends-done h
-    opens-part he (tok set) m l t le n s h = ends-same n s (takes-one (Q .eof) set t s) (λ s′ k. omega (arith, ahead-take m k)) (none-here m n s h)
-    opens-part he (see set) m l t le n s h = ends-same n s (on-if {P = λ s′. n + ahead Q m s′ ≤ N} (sees set (s .rest)) s (λ _. h)) (λ s′ k. k) (none-here m n s h)
+    opens-part he (tok set) m l t le n s h = ends-same set n s (takes-one (Q .eof) set t s) (λ s′ k. omega (arith, ahead-take m k)) (none-here m n s h)
+    opens-part he (see set) m l t le n s h = ends-same set n s (on-if {P = λ s′. n + ahead Q m s′ ≤ N} (sees set (s .rest)) s (λ _. h)) (λ s′ k. k) (none-here m n s h)
     opens-part {env} he (call r) m l t le n s h =
         let takes-some : 0 < G .least r = ltb→lt 0 (G .least r) (search and-l) in
         ends-by (sees (G .first r) (s .rest)) (env r) _ n s
@@ -130,16 +130,17 @@ module _ {Act : Type 0} {M : Machine Act} {R : Type 0} (G : Plan Act R) (Q : Pri
         (λ n₁ s₁ h₁. ends-map (λ n₂ s₂ k. rw (after-both w (takes (G .least) p) (takes (G .least) q) m) k) (λ n₂ s₂ k. k)
         (opens-part he q (after w (takes (G .least) p) m) (search (and-l, and-r)) (search (and-l, and-r)) (after-in w (takes (G .least) p) m le) n₁ s₁ h₁))
     opens-part {env} he (p ∕ q) m l t le n s h =
-        ends-by (sees (begins (G .first) p) (s .rest)) (walk (G .first) env p) (walk (G .first) env q) n s
+        ends-or _ (sees (begins (G .first) p) (s .rest)) (null q || sees (begins (G .first) q) (s .rest)) (walk (G .first) env p) (walk (G .first) env q) n s
         (λ _. ends-map (λ n₁ s₁ k. lower (takes (G .least) (p ∕ q)) (takes (G .least) p) m n₁ s₁ (omega arith) le k) (λ n₁ s₁ k. k) (opens-part he p m (search and-l) (search and-l) le n s h))
         (ends-map (λ n₁ s₁ k. lower (takes (G .least) (p ∕ q)) (takes (G .least) q) m n₁ s₁ (omega arith) le k) (λ n₁ s₁ k. k) (opens-part he q m (search (and-l, and-r)) (search (and-l, and-r)) le n s h))
+        (none-here m n s h)
     opens-part {env} he (many p) m l t le n s h =
         ends-loop (begins (G .first) p) (walk (G .first) env p)
         (λ n₁ s₁ i. ends-map (λ n₂ s₂ k. lower 0 (takes (G .least) p) m n₂ s₂ (omega arith) le k) (λ n₂ s₂ k. k) (opens-part he p m (search (and-l, and-r)) t le n₁ s₁ i))
         (suc (length (s .rest))) n s h
     opens-part {env} he (tail k p) m l t le n s h =
         ends-tail {J = λ n₁ s₁. n₁ + ahead Q w s₁ ≤ N} k (begins (G .first) p) (walk (G .first) env p)
-        (λ n₁ s₁ i. ends-same n₁ s₁ (takes-one (Q .eof) (k ∷ []) (search and-l) s₁) (λ s₂ j. omega (arith, ahead-take m j)) (none-here m n₁ s₁ i))
+        (λ n₁ s₁ i. ends-same (k ∷ []) n₁ s₁ (takes-one (Q .eof) (k ∷ []) (search and-l) s₁) (λ s₂ j. omega (arith, ahead-take m j)) (none-here m n₁ s₁ i))
         (λ n₁ s₁ j. lower-all m n₁ s₁ le j)
         (λ n₁ s₁ j. ends-map (λ n₂ s₂ i. lower-all m n₂ s₂ le (lower 0 (takes (G .least) p) w n₂ s₂ (omega arith) (omega arith) i)) (λ n₂ s₂ i. i)
         (opens-part he p w l (search (and-l, and-r)) (omega arith) n₁ s₁ j))

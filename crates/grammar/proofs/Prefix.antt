@@ -1,8 +1,8 @@
--- Refusal 14 stands at the first token that does not fit: no input that begins with the same tokens, up to that one and with it, is accepted.
+-- Refusals 14, 15 and 16 stand at the first token that does not fit: no input that begins with the same tokens, up to that one and with it, is accepted.
 -- Two inputs are compared that begin alike, and go on with v and with v′. As long as the descent stands in what they share it does the same in both.
 -- Assumes nothing.
 use mathlib.Core.Path.{_≡_, refl, ap}
-use mathlib.Core.Bool.{Bool, true, false}
+use mathlib.Core.Bool.{Bool, true, false, _||_}
 use mathlib.Core.List.{List, [], _∷_, _++_}
 use Prim.Native.Nat.{ℕ, zero, suc, _+_, _≤_, _<_}
 use native.Mathlib.Omega.{arith}
@@ -10,13 +10,13 @@ use lib.ListN.{length}
 use Rattle.grammar.specs.Sets.{mem, sees}
 use Rattle.grammar.specs.Grammar.{Part, skip, act, tok, see, call, _⨾_, _∕_, many, tail}
 use Rattle.grammar.specs.Trial.{Machine, St, Out, okIf, skipP, takeFrom, takeP, seeP, actP, enough}
-use Rattle.grammar.specs.Descent.{Plan, Answer, done, no, deep, stuck, Walk, begins, thenD, sameD, seqD, byD, loopD, tailD, manyD, listD, walk, enter, ruleD, descend}
+use Rattle.grammar.specs.Descent.{Plan, Answer, done, no, deep, stuck, Walk, null, begins, thenD, sameD, seqD, byD, orD, loopD, tailD, manyD, listD, walk, enter, ruleD, descend}
 use Rattle.grammar.proofs.Enough.{Twin, twin-ok, twin-fail, Less, twin-skip, twin-act, twin-take, twin-see}
 
 -- at most as many tokens are left as v has: the descent has left what the two share
 pub data Short {Act : Type 0} {M : Machine Act} (v : List ℕ) : Answer M → Type 0 where
   short-done : {n : ℕ} {s : St M} → length (s .rest) ≤ length v → Short v (done n s)
-  short-no : {n : ℕ} {s : St M} → length (s .rest) ≤ length v → Short v (no n s)
+  short-no : {asked : List ℕ} {n : ℕ} {s : St M} → length (s .rest) ≤ length v → Short v (no asked n s)
   short-deep : {n : ℕ} {s : St M} → length (s .rest) ≤ length v → Short v (deep n s)
   short-stuck : Short v stuck
 
@@ -33,10 +33,16 @@ module _ {Act : Type 0} {M : Machine Act} (v : List ℕ) where
   by-short true p q n s h k = h
   by-short false p q n s h k = k
 
-  same-short : {m : ℕ} {o : Out M} (n : ℕ) (s : St M) → length (s .rest) ≤ length v → Twin (Less m s) o o → Short v (sameD o n s)
+  or-short : (set : List ℕ) (a b : Bool) (p q : Walk M) (n : ℕ) (s : St M) → length (s .rest) ≤ length v → Short v (p n s) → Short v (q n s) → Short v (orD a b set p q n s)
+  unfolding orD
+  or-short set true b p q n s le h k = h
+  or-short set false true p q n s le h k = k
+  or-short set false false p q n s le h k = short-no le
+
+  same-short : (set : List ℕ) {m : ℕ} {o : Out M} (n : ℕ) (s : St M) → length (s .rest) ≤ length v → Twin (Less m s) o o → Short v (sameD set o n s)
   unfolding sameD
-  same-short n s le (twin-ok {s = s₁} h) = short-done {s = s₁} (omega arith)
-  same-short n s le twin-fail = short-no le
+  same-short set n s le (twin-ok {s = s₁} h) = short-done {s = s₁} (omega arith)
+  same-short set n s le twin-fail = short-no le
 
   loop-short : (set : List ℕ) (p : Walk M) → ((n : ℕ) (s : St M) → length (s .rest) ≤ length v → Short v (p n s)) → (k n : ℕ) (s : St M) → length (s .rest) ≤ length v → Short v (loopD set p k n s)
   unfolding loopD seqD
@@ -47,7 +53,7 @@ module _ {Act : Type 0} {M : Machine Act} (v : List ℕ) where
   unfolding tailD seqD
   tail-short c set p hp zero n s le = short-stuck
   tail-short c set p hp (suc k) n s le = by-short (sees (c ∷ []) (s .rest)) _ done n s
-      (then-short (same-short n s le (twin-take (c ∷ []) s)) (λ n₁ s₁ le₁. by-short (sees set (s₁ .rest)) (seqD p (tailD c set p k)) done n₁ s₁ (then-short (hp n₁ s₁ le₁) (tail-short c set p hp k)) (short-done le₁)))
+      (then-short (same-short (c ∷ []) n s le (twin-take (c ∷ []) s)) (λ n₁ s₁ le₁. by-short (sees set (s₁ .rest)) (seqD p (tailD c set p k)) done n₁ s₁ (then-short (hp n₁ s₁ le₁) (tail-short c set p hp k)) (short-done le₁)))
       (short-done le)
 
   enter-short : (go : ℕ → Walk M) (b : Bool) (room n : ℕ) (s : St M) → length (s .rest) ≤ length v → ((m n₁ : ℕ) → Short v (go m n₁ s)) → Short v (enter b room go n s)
@@ -59,13 +65,13 @@ module _ {Act : Type 0} {M : Machine Act} (v : List ℕ) where
   walk-short : {R : Type 0} (first : R → List ℕ) (env : R → Walk M) → ((r : R) (n : ℕ) (s : St M) → length (s .rest) ≤ length v → Short v (env r n s)) →
       (p : Part Act R) (n : ℕ) (s : St M) → length (s .rest) ≤ length v → Short v (walk first env p n s)
   unfolding walk seqD manyD listD
-  walk-short first env he skip n s le = same-short n s le (twin-skip s)
-  walk-short first env he (act a) n s le = same-short n s le (twin-act a s)
-  walk-short first env he (tok set) n s le = same-short n s le (twin-take set s)
-  walk-short first env he (see set) n s le = same-short n s le (twin-see set s)
+  walk-short first env he skip n s le = same-short [] n s le (twin-skip s)
+  walk-short first env he (act a) n s le = same-short [] n s le (twin-act a s)
+  walk-short first env he (tok set) n s le = same-short set n s le (twin-take set s)
+  walk-short first env he (see set) n s le = same-short set n s le (twin-see set s)
   walk-short first env he (call r) n s le = by-short (sees (first r) (s .rest)) (env r) _ n s (he r n s le) (short-no le)
   walk-short first env he (p ⨾ q) n s le = then-short (walk-short first env he p n s le) (walk-short first env he q)
-  walk-short first env he (p ∕ q) n s le = by-short (sees (begins first p) (s .rest)) (walk first env p) (walk first env q) n s (walk-short first env he p n s le) (walk-short first env he q n s le)
+  walk-short first env he (p ∕ q) n s le = or-short _ (sees (begins first p) (s .rest)) (null q || sees (begins first q) (s .rest)) (walk first env p) (walk first env q) n s le (walk-short first env he p n s le) (walk-short first env he q n s le)
   walk-short first env he (many p) n s le = loop-short (begins first p) (walk first env p) (walk-short first env he p) (suc (length (s .rest))) n s le
   walk-short first env he (tail c p) n s le = tail-short c (begins first p) (walk first env p) (walk-short first env he p) (suc (length (s .rest))) n s le
 
@@ -85,7 +91,7 @@ module _ {Act : Type 0} {M : Machine Act} (v v′ : List ℕ) where
   -- the same in both, in what they share; or the first has left that
   pub data Near : Answer M → Answer M → Type 0 where
     near-done : (n x : ℕ) (w : List ℕ) (k : M .Kept) → Near (done n (left (x ∷ w) k)) (done n (right (x ∷ w) k))
-    near-no : (n x : ℕ) (w : List ℕ) (k : M .Kept) → Near (no n (left (x ∷ w) k)) (no n (right (x ∷ w) k))
+    near-no : {asked : List ℕ} (n x : ℕ) (w : List ℕ) (k : M .Kept) → Near (no asked n (left (x ∷ w) k)) (no asked n (right (x ∷ w) k))
     near-deep : (n x : ℕ) (w : List ℕ) (k : M .Kept) → Near (deep n (left (x ∷ w) k)) (deep n (right (x ∷ w) k))
     beyond : {a b : Answer M} → Short v a → Near a b
     stuck-right : {a : Answer M} → Near a stuck
@@ -108,22 +114,29 @@ module _ {Act : Type 0} {M : Machine Act} (v v′ : List ℕ) where
   by-near true p p′ q q′ n s s′ h k = h
   by-near false p p′ q q′ n s s′ h k = k
 
+  or-near : (set : List ℕ) (a b : Bool) (p p′ q q′ : Walk M) (n x : ℕ) (w : List ℕ) (k : M .Kept) → Near (p n (left (x ∷ w) k)) (p′ n (right (x ∷ w) k)) → Near (q n (left (x ∷ w) k)) (q′ n (right (x ∷ w) k)) →
+      Near (orD a b set p q n (left (x ∷ w) k)) (orD a b set p′ q′ n (right (x ∷ w) k))
+  unfolding orD
+  or-near set true b p p′ q q′ n x w k h i = h
+  or-near set false true p p′ q q′ n x w k h i = i
+  or-near set false false p p′ q q′ n x w k h i = near-no n x w k
+
   came : (n : ℕ) (w : List ℕ) (k : M .Kept) → Near (done n (left w k)) (done n (right w k))
   came n [] k = beyond (short-done {s = left [] k} (omega arith))
   came n (x ∷ w) k = near-done n x w k
 
-  if-near : (b : Bool) (n x : ℕ) (w : List ℕ) (k : M .Kept) (w₁ : List ℕ) (k₁ : M .Kept) → Near (sameD (okIf b (left w₁ k₁)) n (left (x ∷ w) k)) (sameD (okIf b (right w₁ k₁)) n (right (x ∷ w) k))
+  if-near : (set : List ℕ) (b : Bool) (n x : ℕ) (w : List ℕ) (k : M .Kept) (w₁ : List ℕ) (k₁ : M .Kept) → Near (sameD set (okIf b (left w₁ k₁)) n (left (x ∷ w) k)) (sameD set (okIf b (right w₁ k₁)) n (right (x ∷ w) k))
   unfolding sameD okIf
-  if-near true n x w k w₁ k₁ = came n w₁ k₁
-  if-near false n x w k w₁ k₁ = near-no n x w k
+  if-near set true n x w k w₁ k₁ = came n w₁ k₁
+  if-near set false n x w k w₁ k₁ = near-no n x w k
 
-  take-near : (set : List ℕ) (n x : ℕ) (w : List ℕ) (k : M .Kept) → Near (sameD (takeP set (left (x ∷ w) k)) n (left (x ∷ w) k)) (sameD (takeP set (right (x ∷ w) k)) n (right (x ∷ w) k))
+  take-near : (set : List ℕ) (n x : ℕ) (w : List ℕ) (k : M .Kept) → Near (sameD set (takeP set (left (x ∷ w) k)) n (left (x ∷ w) k)) (sameD set (takeP set (right (x ∷ w) k)) n (right (x ∷ w) k))
   unfolding takeP takeFrom
-  take-near set n x w k = if-near (mem x set) n x w k w (M .shift x k)
+  take-near set n x w k = if-near set (mem x set) n x w k w (M .shift x k)
 
-  see-near : (set : List ℕ) (n x : ℕ) (w : List ℕ) (k : M .Kept) → Near (sameD (seeP set (left (x ∷ w) k)) n (left (x ∷ w) k)) (sameD (seeP set (right (x ∷ w) k)) n (right (x ∷ w) k))
+  see-near : (set : List ℕ) (n x : ℕ) (w : List ℕ) (k : M .Kept) → Near (sameD set (seeP set (left (x ∷ w) k)) n (left (x ∷ w) k)) (sameD set (seeP set (right (x ∷ w) k)) n (right (x ∷ w) k))
   unfolding seeP
-  see-near set n x w k = if-near (mem x set) n x w k (x ∷ w) k
+  see-near set n x w k = if-near set (mem x set) n x w k (x ∷ w) k
 
   loop-near : (set : List ℕ) (p q : Walk M) → Nears p q → (i j n x : ℕ) (w : List ℕ) (k : M .Kept) → Near (loopD set p i n (left (x ∷ w) k)) (loopD set q j n (right (x ∷ w) k))
   unfolding loopD seqD
@@ -166,7 +179,7 @@ module _ {Act : Type 0} {M : Machine Act} (v v′ : List ℕ) where
     walk-near (call r) n x w k = by-near (mem x (first r)) (env r) (env′ r) _ _ n (left (x ∷ w) k) (right (x ∷ w) k) (he r .near n x w k) (near-no n x w k)
     walk-near (p ⨾ q) n x w k = then-near (walk-near p n x w k) (record { near = walk-near q; short = part-short q })
     walk-near (p ∕ q) n x w k =
-        by-near (mem x (begins first p)) (walk first env p) (walk first env′ p) (walk first env q) (walk first env′ q) n (left (x ∷ w) k) (right (x ∷ w) k) (walk-near p n x w k) (walk-near q n x w k)
+        or-near _ (mem x (begins first p)) (null q || mem x (begins first q)) (walk first env p) (walk first env′ p) (walk first env q) (walk first env′ q) n x w k (walk-near p n x w k) (walk-near q n x w k)
     walk-near (many p) n x w k = loop-near (begins first p) (walk first env p) (walk first env′ p) (record { near = walk-near p; short = part-short p }) _ _ n x w k
     walk-near (tail c p) n x w k = tail-near c (begins first p) (walk first env p) (walk first env′ p) (record { near = walk-near p; short = part-short p }) _ _ n x w k
 
@@ -177,22 +190,22 @@ module _ {Act : Type 0} {M : Machine Act} (v v′ : List ℕ) where
   rule-near G (suc i) (suc j) room r n x w k = enter-near _ _ (G .opens r) room n x w k (λ m n₁.
       walk-near (G .first) (λ r′. ruleD G i m r′) (λ r′. ruleD G j m r′) (λ r′. record { near = rule-near G i j m r′; short = rule-short v G i m r′ }) (G .body r) n₁ x w k)
 
-  not-short : {a : Answer M} (n : ℕ) (s : St M) → Short v a → a ≡ no n s → length v < length (s .rest) → ⊥
+  not-short : {a : Answer M} {asked : List ℕ} (n : ℕ) (s : St M) → Short v a → a ≡ no asked n s → length v < length (s .rest) → ⊥
   not-short n s (short-done h) e lt = let z : _≡_ {A = ℕ} 0 1 = cc in omega arith
   not-short n s (short-no {s = s₁} h) e lt = let z : length (s .rest) ≡ length (s₁ .rest) = cc in omega arith
   not-short n s (short-deep h) e lt = let z : _≡_ {A = ℕ} 0 1 = cc in omega arith
   not-short n s short-stuck e lt = let z : _≡_ {A = ℕ} 0 1 = cc in omega arith
 
-  near-refusal : {a b : Answer M} (m : ℕ) (s : St M) → Near a b → (b ≡ stuck → ⊥) → a ≡ no m s → length v < length (s .rest) → (s₁ : St M) × (b ≡ no m s₁)
+  near-refusal : {a b : Answer M} {asked : List ℕ} (m : ℕ) (s : St M) → Near a b → (b ≡ stuck → ⊥) → a ≡ no asked m s → length v < length (s .rest) → (s₁ : St M) × (b ≡ no asked m s₁)
   near-refusal m s (near-done n x w k) f e lt = (s, cc)
-  near-refusal m s (near-no n x w k) f e lt = let z : n ≡ m = cc in (right (x ∷ w) k, ap (λ (i : ℕ). Answer.no i (right (x ∷ w) k)) z)
+  near-refusal m s (near-no n x w k) f e lt = (right (x ∷ w) k, cc)
   near-refusal m s (near-deep n x w k) f e lt = (s, cc)
   near-refusal m s (beyond h) f e lt = absurd (not-short m s h e lt)
   near-refusal m s stuck-right f e lt = absurd (f refl)
 
   -- the descent refuses the one at a token that the two share: it refuses the other
-  pub same-refusal : {R : Type 0} (G : Plan Act R) (room : ℕ) (r : R) (n m : ℕ) (w : List ℕ) (k : M .Kept) (s : St M) → (descend G room r n (right w k) ≡ stuck → ⊥) →
-      descend G room r n (left w k) ≡ no m s → length v < length (s .rest) → (s₁ : St M) × (descend G room r n (right w k) ≡ no m s₁)
+  pub same-refusal : {R : Type 0} {asked : List ℕ} (G : Plan Act R) (room : ℕ) (r : R) (n m : ℕ) (w : List ℕ) (k : M .Kept) (s : St M) → (descend G room r n (right w k) ≡ stuck → ⊥) →
+      descend G room r n (left w k) ≡ no asked m s → length v < length (s .rest) → (s₁ : St M) × (descend G room r n (right w k) ≡ no asked m s₁)
   unfolding descend
   same-refusal G room r n m [] k s f e lt = absurd (not-short m s (rule-short v G (enough (left [] k)) room r n (left [] k) (omega arith)) e lt)
   same-refusal G room r n m (x ∷ w) k s f e lt = near-refusal m s (rule-near G (enough (left (x ∷ w) k)) (enough (right (x ∷ w) k)) room r n x w k) f e lt

@@ -2,6 +2,7 @@
 -- a refusal stands at the end or before it.
 -- Assumes nothing.
 use mathlib.Core.Path.{_≡_, refl, ap, _∙_}
+use mathlib.Core.Bool.{_||_}
 use mathlib.Core.List.{[], _∷_}
 use Prim.Native.Nat.{ℕ, zero, suc, _+_, _≤_}
 use native.Mathlib.Omega.{arith}
@@ -10,12 +11,12 @@ use lib.ListN.{length}
 use Rattle.grammar.specs.Sets.{sees}
 use Rattle.grammar.specs.Grammar.{Part, skip, act, tok, see, call, _⨾_, _∕_, many, tail}
 use Rattle.grammar.specs.Trial.{Machine, St, skipP, seeP, actP}
-use Rattle.grammar.specs.Descent.{Plan, Walk, begins, sameD, seqD, manyD, listD, walk, ruleD}
+use Rattle.grammar.specs.Descent.{Plan, Walk, null, begins, sameD, seqD, manyD, listD, walk, ruleD}
 use Rattle.grammar.specs.Check.{takes, low}
 use Rattle.grammar.specs.Limits.{Prices, Meter, before, clean, credit, afford, modest}
 use Rattle.grammar.proofs.Sets.{and-l, and-r}
 use Rattle.grammar.proofs.Begin.{on-if}
-use Rattle.grammar.proofs.Ends.{Ends, ends-done, ends-no, ends-stuck, ends-map, ends-then, ends-by, ends-same, ends-loop, ends-tail, ends-enter}
+use Rattle.grammar.proofs.Ends.{Ends, ends-done, ends-no, ends-stuck, ends-map, ends-then, ends-by, ends-or, ends-same, ends-loop, ends-tail, ends-enter}
 use Rattle.grammar.proofs.Tokens.{Took, takes-one}
 
 -- the parts of the test of one rule
@@ -73,21 +74,22 @@ module _ {Act : Type 0} {M : Machine Act} {f : Act → ℕ} (Z : Meter M f) (c :
     unfolding walk takes clean skipP actP seeP sameD seqD manyD listD
     went-part he skip t n s = ends-done (went-same s)
     went-part he (act a) t n s = ends-done (went-act a s)
-    went-part he (tok set) t n s = ends-same n s (takes-one c set t s) (λ s′ h. went-take h) (went-same s)
-    went-part he (see set) t n s = ends-same n s (on-if {P = Went 0 s} (sees set (s .rest)) s (λ _. went-same s)) (λ s′ h. h) (went-same s)
+    went-part he (tok set) t n s = ends-same set n s (takes-one c set t s) (λ s′ h. went-take h) (went-same s)
+    went-part he (see set) t n s = ends-same set n s (on-if {P = Went 0 s} (sees set (s .rest)) s (λ _. went-same s)) (λ s′ h. h) (went-same s)
     went-part {env} he (call r) t n s = ends-by (sees (G .first r) (s .rest)) (env r) _ n s (λ _. he r n s) (ends-no (went-same s))
     went-part he (p ⨾ q) t n s =
         ends-then (went-part he p (search and-l) n s) (λ n₁ s₁ h. ends-map (λ n₂ s₂ k. went-on h k) (λ n₂ s₂ k. went-far h k) (went-part he q (search (and-l, and-r)) n₁ s₁))
     went-part {env} he (p ∕ q) t n s =
-        ends-by (sees (begins (G .first) p) (s .rest)) (walk (G .first) env p) (walk (G .first) env q) n s
+        ends-or _ (sees (begins (G .first) p) (s .rest)) (null q || sees (begins (G .first) q) (s .rest)) (walk (G .first) env p) (walk (G .first) env q) n s
         (λ _. ends-map (λ n₁ s₁ h. went-less (omega arith) h) (λ n₁ s₁ h. h) (went-part he p (search and-l) n s))
         (ends-map (λ n₁ s₁ h. went-less (omega arith) h) (λ n₁ s₁ h. h) (went-part he q (search (and-l, and-r)) n s))
+        (went-same s)
     went-part {env} he (many p) t n s =
         ends-loop (begins (G .first) p) (walk (G .first) env p)
         (λ n₁ s₁ i. ends-map (λ n₂ s₂ k. went-far i k) (λ n₂ s₂ k. went-far i k) (went-part he p t n₁ s₁)) (suc (length (s .rest))) n s (went-same s)
     went-part {env} he (tail k p) t n s =
         ends-tail {J = λ _ s′. Went 0 s s′} k (begins (G .first) p) (walk (G .first) env p)
-        (λ n₁ s₁ i. ends-same n₁ s₁ (takes-one c (k ∷ []) (search and-l) s₁) (λ s₂ h. went-far i (went-take h)) i) (λ n₁ s₁ j. j)
+        (λ n₁ s₁ i. ends-same (k ∷ []) n₁ s₁ (takes-one c (k ∷ []) (search and-l) s₁) (λ s₂ h. went-far i (went-take h)) i) (λ n₁ s₁ j. j)
         (λ n₁ s₁ i. ends-map (λ n₂ s₂ k. went-far i k) (λ n₂ s₂ k. went-far i k) (went-part he p (search (and-l, and-r)) n₁ s₁)) (suc (length (s .rest))) n s (went-same s)
 
 module _ {Act : Type 0} {M : Machine Act} {R : Type 0} (G : Plan Act R) (Q : Prices Act R) (Z : Meter M (Q .writes)) (fit : (r : R) → Modest G Q r) where

@@ -51,11 +51,21 @@ mem-right : (x : ℕ) (a b : List ℕ) → T (mem x b) → T (mem x (a ++ b))
 mem-right x [] b t = t
 mem-right x (y ∷ a) b t = or-r (eqb x y) (mem x (a ++ b)) (mem-right x a b t)
 
-mem-within : (x : ℕ) (a b : List ℕ) → T (within a b) → T (mem x a) → T (mem x b)
+pub mem-within : (x : ℕ) (a b : List ℕ) → T (within a b) → T (mem x a) → T (mem x b)
 mem-within x [] b w t = absurd t
 mem-within x (y ∷ a) b w t =
     ⊎-elim (λ h. subst (λ (z : ℕ). T (mem z b)) (sym (eqb→eq x y h)) (and-l (mem y b) (within a b) w)) (mem-within x a b (and-r (mem y b) (within a b) w))
     (or-e (eqb x y) (mem x a) t)
+
+pub mem-either : (x : ℕ) (a b : List ℕ) → T (mem x (a ++ b)) → T (mem x a) ⊎ T (mem x b)
+mem-either x [] b t = inr t
+mem-either x (y ∷ a) b t =
+    ⊎-elim (λ h. inl (or-l (eqb x y) (mem x a) h)) (λ h. ⊎-elim (λ i. inl (or-r (eqb x y) (mem x a) i)) (λ i. inr i) (mem-either x a b h))
+    (or-e (eqb x y) (mem x (a ++ b)) t)
+
+pub mem-only : (x : ℕ) (b : Bool) (a : List ℕ) → T (mem x (only b a)) → T b × T (mem x a)
+mem-only x true a t = (tt, t)
+mem-only x false a t = absurd t
 
 pub mem-apart : (x : ℕ) (a b : List ℕ) → T (apart a b) → T (mem x a) → T (mem x b) → ⊥
 mem-apart x [] b w t u = t
@@ -84,6 +94,18 @@ sees-within {a} {l = t ∷ ts} b w h = record { holds = mem-within t a b w (h .h
 pub sees-apart : {a b l : List ℕ} → T (apart a b) → Sees a l → Sees b l → ⊥
 sees-apart {l = []} w h k = h .holds
 sees-apart {a} {b} {l = t ∷ ts} w h k = mem-apart t a b w (h .holds) (k .holds)
+
+pub sees-either : {a l : List ℕ} (b : List ℕ) → Sees (a ++ b) l → Sees a l ⊎ Sees b l
+sees-either {l = []} b h = absurd (h .holds)
+sees-either {a} {l = t ∷ ts} b h = ⊎-elim (λ i. inl (record { holds = i })) (λ i. inr (record { holds = i })) (mem-either t a b (h .holds))
+
+pub sees-none : {l : List ℕ} → Sees [] l → ⊥
+sees-none {l = []} h = h .holds
+sees-none {l = t ∷ ts} h = h .holds
+
+pub sees-if : {k l : List ℕ} (b : Bool) → Sees (only b k) l → T b × Sees k l
+sees-if {l = []} b h = absurd (h .holds)
+sees-if {k} {l = t ∷ ts} b h = let i = mem-only t b k (h .holds) in (i .0, record { holds = i .1 })
 
 pub sees-only : {k l : List ℕ} (b : Bool) → T b → Sees k l → Sees (only b k) l
 sees-only true t h = h

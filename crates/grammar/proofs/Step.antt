@@ -2,7 +2,7 @@
 -- This is what the proof of a function of the code cites: one step of the descent, and the contracts of the functions that it calls.
 -- Assumes nothing.
 use mathlib.Core.Path.{_≡_, refl}
-use mathlib.Core.Bool.{Bool, true, false}
+use mathlib.Core.Bool.{Bool, true, false, _||_}
 use mathlib.Core.List.{List, [], _∷_}
 use Prim.Native.Nat.{ℕ, zero, suc, _+_, _*_, _≤_, _<_}
 use native.Mathlib.Omega.{arith}
@@ -11,7 +11,7 @@ use lib.ListN.{length}
 use Rattle.grammar.specs.Sets.{sees}
 use Rattle.grammar.specs.Grammar.{Part, skip, act, tok, see, call, _⨾_, _∕_, many, tail}
 use Rattle.grammar.specs.Trial.{Machine, St, Out, takeP, enough}
-use Rattle.grammar.specs.Descent.{Plan, Answer, done, no, deep, stuck, Walk, begins, thenD, sameD, seqD, byD, loopD, tailD, manyD, listD, walk, enter, ruleD, descend}
+use Rattle.grammar.specs.Descent.{Plan, Answer, done, no, deep, stuck, Walk, null, begins, thenD, sameD, seqD, byD, orD, loopD, tailD, manyD, listD, walk, enter, ruleD, descend}
 use Rattle.grammar.specs.Check.{takes, after, low}
 use Rattle.grammar.proofs.Sets.{and-l, and-r}
 use Rattle.grammar.proofs.Whole.{Sound}
@@ -20,7 +20,7 @@ use Rattle.grammar.proofs.Enough.{Twin, twin-ok, twin-fail, after-le, L
 -- both come to one answer, which is not `stuck`; P holds of the state, if they come to one
 pub data TwinD {Act : Type 0} {M : Machine Act} (P : St M → Type 0) : Answer M → Answer M → Type 0 where
   both-done : {n : ℕ} {s : St M} → P s → TwinD P (done n s) (done n s)
-  both-no : {n : ℕ} {s : St M} → TwinD P (no n s) (no n s)
+  both-no : {asked : List ℕ} {n : ℕ} {s : St M} → TwinD P (no asked n s) (no asked n s)
   both-deep : {n : ℕ} {s : St M} → TwinD P (deep n s) (deep n s)
 
 module _ {Act : Type 0} {M : Machine Act} where
@@ -40,15 +40,21 @@ module _ {Act : Type 0} {M : Machine Act} where
   map-twin f both-no = both-no
   map-twin f both-deep = both-deep
 
-  same-twin : {P : St M → Type 0} {o o′ : Out M} (n : ℕ) (s : St M) → Twin P o o′ → TwinD P (sameD o n s) (sameD o′ n s)
+  same-twin : {P : St M → Type 0} (set : List ℕ) {o o′ : Out M} (n : ℕ) (s : St M) → Twin P o o′ → TwinD P (sameD set o n s) (sameD set o′ n s)
   unfolding sameD
-  same-twin n s (twin-ok h) = both-done h
-  same-twin n s twin-fail = both-no
+  same-twin set n s (twin-ok h) = both-done h
+  same-twin set n s twin-fail = both-no
 
   by-twin : {P : St M → Type 0} (b : Bool) (v v′ w w′ : Walk M) (n : ℕ) (s : St M) → TwinD P (v n s) (v′ n s) → TwinD P (w n s) (w′ n s) → TwinD P (byD b v w n s) (byD b v′ w′ n s)
   unfolding byD
   by-twin true v v′ w w′ n s h k = h
   by-twin false v v′ w w′ n s h k = k
+
+  or-twin : {P : St M → Type 0} (set : List ℕ) (a b : Bool) (v v′ w w′ : Walk M) (n : ℕ) (s : St M) → TwinD P (v n s) (v′ n s) → TwinD P (w n s) (w′ n s) → TwinD P (orD a b set v w n s) (orD a b set v′ w′ n s)
+  unfolding orD
+  or-twin set true b v v′ w w′ n s h k = h
+  or-twin set false true v v′ w w′ n s h k = k
+  or-twin set false false v v′ w w′ n s h k = both-no
 
   done-twin : (n : ℕ) (s : St M) → TwinD (Less 0 s) (done n s) (done n s)
   done-twin n s = both-done {s = s} (record { fewer = omega arith })
@@ -70,7 +76,7 @@ module _ {Act : Type 0} {M : Machine Act} where
   tail-twin c set v v′ L (suc k) zero hv n s le lt lt′ = absurd (omega arith)
   tail-twin c set v v′ L (suc k) (suc k′) hv n s le lt lt′ =
       by-twin (sees (c ∷ []) (s .rest)) _ _ done done n s
-      (then-twin (same-twin n s (twin-take (c ∷ []) s)) (λ n₁ s₁ h. map-twin (λ s₂ h₂. record { fewer = omega arith })
+      (then-twin (same-twin (c ∷ []) n s (twin-take (c ∷ []) s)) (λ n₁ s₁ h. map-twin (λ s₂ h₂. record { fewer = omega arith })
       (by-twin (sees set (s₁ .rest)) (seqD v (tailD c set v k)) (seqD v′ (tailD c set v′ k′)) done done n₁ s₁
       (then-twin (hv n₁ s₁ (omega arith)) (λ n₂ s₂ h₂. map-twin (λ s₃ h₃. record { fewer = omega arith }) (tail-twin c set v v′ L k k′ hv n₂ s₂ (omega arith) (omega arith) (omega arith))))
       (done-twin n₁ s₁))))
@@ -86,16 +92,16 @@ module _ {Act : Type 0} {M : Machine Act} where
     walk-twin : {env env′ : R → Walk M} (B : ℕ) → ((r : R) (n : ℕ) (s : St M) → length (s .rest) * 100 + G .rank r < B → TwinD (Less (G .least r) s) (env r n s) (env′ r n s)) →
         (p : Part Act R) (m n : ℕ) (s : St M) → T (low G 100 m p) → length (s .rest) * 100 + m ≤ B → TwinD (Less (takes (G .least) p) s) (walk (G .first) env p n s) (walk (G .first) env′ p n s)
     unfolding walk takes low seqD manyD listD
-    walk-twin B he skip m n s t le = same-twin n s (twin-skip s)
-    walk-twin B he (act a) m n s t le = same-twin n s (twin-act a s)
-    walk-twin B he (tok set) m n s t le = same-twin n s (twin-take set s)
-    walk-twin B he (see set) m n s t le = same-twin n s (twin-see set s)
+    walk-twin B he skip m n s t le = same-twin [] n s (twin-skip s)
+    walk-twin B he (act a) m n s t le = same-twin [] n s (twin-act a s)
+    walk-twin B he (tok set) m n s t le = same-twin set n s (twin-take set s)
+    walk-twin B he (see set) m n s t le = same-twin set n s (twin-see set s)
     walk-twin {env} {env′} B he (call r) m n s t le = by-twin (sees (G .first r) (s .rest)) (env r) (env′ r) _ _ n s (he r n s (omega (arith, ltb→lt (G .rank r) m t))) both-no
     walk-twin B he (p ⨾ q) m n s t le =
         then-twin (walk-twin B he p m n s (search and-l) le) (λ n₁ s₁ h. map-twin (λ s₂ k. record { fewer = omega arith })
         (walk-twin B he q (after 100 (takes (G .least) p) m) n₁ s₁ (search (and-l, and-r)) (after-le (takes (G .least) p) m (length (s .rest)) (length (s₁ .rest)) B (h .fewer) le)))
     walk-twin {env} {env′} B he (p ∕ q) m n s t le =
-        by-twin (sees (begins (G .first) p) (s .rest)) (walk (G .first) env p) (walk (G .first) env′ p) (walk (G .first) env q) (walk (G .first) env′ q) n s
+        or-twin _ (sees (begins (G .first) p) (s .rest)) (null q || sees (begins (G .first) q) (s .rest)) (walk (G .first) env p) (walk (G .first) env′ p) (walk (G .first) env q) (walk (G .first) env′ q) n s
         (map-twin (λ s₁ h. record { fewer = omega arith }) (walk-twin B he p m n s (search and-l) le))
         (map-twin (λ s₁ h. record { fewer = omega arith }) (walk-twin B he q m n s (search (and-l, and-r)) le))
     walk-twin {env} {env′} B he (many p) m n s t le =
@@ -163,13 +169,13 @@ module _ {Act : Type 0} {M : Machine Act} where
           let v : Walk M = walk (G .first) (descend G room) p in
           let B : List ℕ = begins (G .first) p in
           listD c B v n s ≡
-          byD (sees (c ∷ []) (s .rest)) (seqD (λ n₁ s₁. sameD (takeP (c ∷ []) s₁) n₁ s₁) (λ n₁ s₁. byD (sees B (s₁ .rest)) (seqD v (listD c B v)) done n₁ s₁)) done n s
+          byD (sees (c ∷ []) (s .rest)) (seqD (λ n₁ s₁. sameD (c ∷ []) (takeP (c ∷ []) s₁) n₁ s₁) (λ n₁ s₁. byD (sees B (s₁ .rest)) (seqD v (listD c B v)) done n₁ s₁)) done n s
       unfolding listD tailD seqD
       list-is room c p lower n s =
           let v : Walk M = walk (G .first) (descend G room) p in
           let B : List ℕ = begins (G .first) p in
           twinD-same {P = Less 0 s} (by-twin (sees (c ∷ []) (s .rest)) _ _ done done n s
-          (then-twin (same-twin n s (twin-take (c ∷ []) s)) (λ n₁ s₁ h. map-twin (λ s₂ h₂. record { fewer = omega arith })
+          (then-twin (same-twin (c ∷ []) n s (twin-take (c ∷ []) s)) (λ n₁ s₁ h. map-twin (λ s₂ h₂. record { fewer = omega arith })
           (by-twin {P = Less 0 s₁} (sees B (s₁ .rest)) _ _ done done n₁ s₁
           (then-twin (part-twin room p lower n₁ s₁) (λ n₂ s₂ h₂. map-twin (λ s₃ h₃. record { fewer = omega arith })
           (tail-twin c B v v (length (s .rest)) (length (s .rest)) (suc (length (s₂ .rest))) (λ n₃ s₃ _. part-twin room p lower n₃ s₃) n₂ s₂ (omega arith) (omega arith) (omega arith))))

@@ -31,7 +31,7 @@ pub record Language {Act R : Type 0} (plain : R → Part Act R) (G : Plan Act R)
 -- What the two may come to: both accept, with one state; both refuse; or the descent refuses with 13.
 pub data Verdict {Act : Type 0} {M : Machine Act} : Out M → Answer M → Type 0 where
   accepted : {s : St M} (n : ℕ) → Verdict (ok s) (done n s)
-  refused : {s : St M} (n : ℕ) → Verdict fail (no n s)
+  refused : {asked : List ℕ} {s : St M} (n : ℕ) → Verdict fail (no asked n s)
   thirteen : {o : Out M} {s : St M} (n : ℕ) → Verdict o (deep n s)
 
 module _ {Act : Type 0} {M : Machine Act} where
@@ -81,7 +81,7 @@ module _ {Act : Type 0} {M : Machine Act} where
   from-done n s′ (refused m) e = cc
   from-done n s′ (thirteen m) e = cc
 
-  from-no : {o : Out M} {x : Answer M} (n : ℕ) (s′ : St M) → Verdict o x → x ≡ no n s′ → o ≡ fail
+  from-no : {o : Out M} {x : Answer M} {asked : List ℕ} (n : ℕ) (s′ : St M) → Verdict o x → x ≡ no asked n s′ → o ≡ fail
   from-no n s′ (accepted m) e = cc
   from-no n s′ (refused m) e = cc
   from-no n s′ (thirteen m) e = cc
@@ -118,7 +118,7 @@ module _ {Act R : Type 0} {plain : R → Part Act R} {G : Plan Act R} {start : R
     pub trial-answers : (r : R) (s : St M) → parse plain r s ≡ out → ⊥
     trial-answers r s e = answers (twin-parse G good r s) (sym (same-parse r s) ∙ e)
 
-    parse-ends : (s : St M) → On (λ s′. Sees (G .follow start) (s′ .rest)) (parse (G .body) start s)
+    pub parse-ends : (s : St M) → On (λ s′. Sees (G .follow start) (s′ .rest)) (parse (G .body) start s)
     parse-ends s = rw (parse-is G good start s) (stops-at (parse (G .body)) (G .follow start) (G .body start) (L .ends) s)
 
     agreed : (room n : ℕ) (s : St M) → Agree (G .follow start) (parse (G .body) start s) (descend G room start n s)
@@ -136,17 +136,17 @@ module _ {Act R : Type 0} {plain : R → Part Act R} {G : Plan Act R} {start : R
     pub trial→descent : (room n : ℕ) (s s′ : St M) → parse plain start s ≡ ok s′ → ((m : ℕ) × (descend G room start n s ≡ done m s′)) ⊎ ((m : ℕ) × (s₁ : St M) × (descend G room start n s ≡ deep m s₁))
     trial→descent room n s s′ e = from-ok s′ (theorem room n s) e
 
-    -- what the descent refuses with 14 the trial refuses
-    pub refusal→trial : (room n m : ℕ) (s s₁ : St M) → descend G room start n s ≡ no m s₁ → parse plain start s ≡ fail
+    -- what the descent refuses with 14, 15 or 16 the trial refuses
+    pub refusal→trial : {asked : List ℕ} (room n m : ℕ) (s s₁ : St M) → descend G room start n s ≡ no asked m s₁ → parse plain start s ≡ fail
     refusal→trial room n m s s₁ e = from-no m s₁ (theorem room n s) e
 
     -- where the descent accepts, one of the tokens that can stand after the whole stands next
     pub accepted-at : (room n m : ℕ) (s s′ : St M) → descend G room start n s ≡ done m s′ → Sees (G .follow start) (s′ .rest)
     accepted-at room n m s s′ e = of-ok (subst (On (λ s₁. Sees (G .follow start) (s₁ .rest))) (sym (same-parse start s) ∙ descent→trial room n m s s′ e) (parse-ends s))
 
-    -- Refusal 14 stands at the first token that does not fit. The descent refuses w and then v at s₁, at a token of w, as more tokens are left than v has:
-    -- then no input that begins with w is accepted.
-    pub first-misfit : (room n m : ℕ) (w v v′ : List ℕ) (k : M .Kept) (s₁ : St M) → descend G room start n (record { rest = w ++ v; kept = k }) ≡ no m s₁ → length v < length (s₁ .rest) →
+    -- Refusals 14, 15 and 16 stand at the first token that does not fit. The descent refuses w and then v at s₁, at a token of w, as more tokens are left than
+    -- v has: then no input that begins with w is accepted.
+    pub first-misfit : {asked : List ℕ} (room n m : ℕ) (w v v′ : List ℕ) (k : M .Kept) (s₁ : St M) → descend G room start n (record { rest = w ++ v; kept = k }) ≡ no asked m s₁ → length v < length (s₁ .rest) →
         parse {M = M} plain start (record { rest = w ++ v′; kept = k }) ≡ fail
     first-misfit room n m w v v′ k s₁ e lt =
         let (s₂, e₂) = same-refusal v v′ G room start n m w k s₁ (descent-answers G good room start n (record { rest = w ++ v′; kept = k })) e lt in

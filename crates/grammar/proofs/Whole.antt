@@ -1,7 +1,7 @@
 -- The trial and the descent agree on every rule of a grammar whose tables pass the test.
 -- Assumes nothing.
 use mathlib.Core.Bool.{Bool, true, false, not}
-use mathlib.Core.List.{List, _∷_, _++_}
+use mathlib.Core.List.{List, [], _∷_, _++_}
 use Prim.Native.Nat.{ℕ, zero, suc, _+_}
 use lib.Dec.{T, leb, ltb}
 use Rattle.grammar.specs.Sets.{within}
@@ -49,13 +49,13 @@ module _ {Act : Type 0} {M : Machine Act} {R : Type 0} (G : Plan Act R) (good : 
   agrees-part : {env : R → Parser M} {walks : R → Walk M} → ((r : R) → Begins (G .first r) false (env r)) → ((r : R) → Agrees (G .follow r) (env r) (walks r)) →
       (K : List ℕ) (p : Part Act R) → T (fits G K p) → Agrees K (eval env p) (walk (G .first) walks p)
   unfolding eval walk fits
-  agrees-part be he K skip t = agrees-same skipP
-  agrees-part be he K (act a) t = agrees-same (actP a)
-  agrees-part be he K (tok set) t = agrees-same (takeP set)
-  agrees-part be he K (see set) t = agrees-same (seeP set)
+  agrees-part be he K skip t = agrees-same [] skipP
+  agrees-part be he K (act a) t = agrees-same [] (actP a)
+  agrees-part be he K (tok set) t = agrees-same set (takeP set)
+  agrees-part be he K (see set) t = agrees-same set (seeP set)
   agrees-part be he K (call r) t = agrees-call (be r) t (he r)
   agrees-part be he K (p ⨾ q) t = agrees-seq (begins-part (G .first) be q) (agrees-part be he (next (G .first) q K) p (search and-l)) (agrees-part be he K q (search (and-l, and-r)))
-  agrees-part be he K (p ∕ q) t = agrees-alt (begins-part (G .first) be p) (begins-part (G .first) be q) (search (and-l, and-r)) (search (and-l, and-r)) (agrees-part be he K p (search (and-l, and-r))) (agrees-part be he K q (search (and-l, and-r)))
+  agrees-part be he K (p ∕ q) t = agrees-alt _ (begins-part (G .first) be p) (begins-part (G .first) be q) (search (and-l, and-r)) (search (and-l, and-r)) (agrees-part be he K p (search (and-l, and-r))) (agrees-part be he K q (search (and-l, and-r)))
   agrees-part be he K (many p) t = agrees-many (begins-part (G .first) be p) (search (and-l, and-r)) (search (and-l, and-r)) (agrees-part be he (begins (G .first) p ++ K) p (search (and-l, and-r)))
   agrees-part {env} be he K (tail c p) t = agrees-tail c (eval env p) (begins-part (G .first) be p) (search (and-l, and-r)) (search (and-l, and-r)) (agrees-part be he (c ∷ K) p (search (and-l, and-r)))
 

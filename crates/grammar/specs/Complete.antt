@@ -1,5 +1,5 @@
--- The test by which refusal 14 is never too late, which antt computes: whatever tokens the descent has taken, some list of tokens takes it on to its end.
--- It need not be believed: the theorem (proofs/Late.antt) is shown of every grammar that passes it.
+-- The test by which refusals 14, 15 and 16 are never too late, which antt computes: whatever tokens the descent has taken, some list of tokens takes it on
+-- to its end. It need not be believed: the theorem (proofs/Late.antt) is shown of every grammar that passes it.
 -- Assumes nothing.
 use Prim.Native.Nat.{ℕ}
 use mathlib.Core.Bool.{Bool, true, false, _&&_, _||_}

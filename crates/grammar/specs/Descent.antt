@@ -17,12 +17,13 @@ pub record Plan (Act R : Type 0) : Type 0 where
   pub rank : R → ℕ  -- a rule that is called before a token is taken has a lower rank; below 100
   pub opens : R → Bool  -- it takes of the room for depth
 
--- What the descent comes to, each with the count of openings so far: `done`, a state; `no`, refusal 14, where the next token of the state does
--- not fit; `deep`, refusal 13, where the next token would open one rule too many within one another.
+-- What the descent comes to, each with the count of openings so far: `done`, a state; `no`, where the next token of the state does not fit, with the tokens
+-- that were asked for there; `deep`, refusal 13, where the next token would open one rule too many within one another.
 -- `stuck` is for the trial's `out`, and never comes where the count suffices.
 pub data Answer {Act : Type 0} (M : Machine Act) : Type 0 where
   done : ℕ → St M → Answer M
-  no deep : ℕ → St M → Answer M
+  no : List ℕ → ℕ → St M → Answer M
+  deep : ℕ → St M → Answer M
   stuck : Answer M
 
 abbrev pub Walk : {Act : Type 0} → Machine Act → Type 0
@@ -56,15 +57,15 @@ begins first (tail c p) = c ∷ []
 module _ {Act : Type 0} {M : Machine Act} where
   unfoldable pub thenD : Answer M → Walk M → Answer M
   thenD (done n s) q = q n s
-  thenD (no n s) q = no n s
+  thenD (no asked n s) q = no asked n s
   thenD (deep n s) q = deep n s
   thenD stuck q = stuck
 
-  -- what needs no decision is the trial's
-  unfoldable pub sameD : Out M → Walk M
-  sameD (ok s′) n s = done n s′
-  sameD fail n s = no n s
-  sameD out n s = stuck
+  -- what needs no decision is the trial's; where it fails, one of this set was asked for
+  unfoldable pub sameD : List ℕ → Out M → Walk M
+  sameD set (ok s′) n s = done n s′
+  sameD set fail n s = no set n s
+  sameD set out n s = stuck
 
   unfoldable pub seqD : Walk M → Walk M → Walk M
   seqD p q n s = thenD (p n s) q
@@ -73,6 +74,12 @@ module _ {Act : Type 0} {M : Machine Act} where
   unfoldable pub byD : Bool → Walk M → Walk M → Walk M
   byD true p q n s = p n s
   byD false p q n s = q n s
+
+  -- p or q, by what the next token can begin (q may need none); where it can begin neither, a token of either was asked for: this set
+  unfoldable pub orD : Bool → Bool → List ℕ → Walk M → Walk M → Walk M
+  orD true b set p q n s = p n s
+  orD false true set p q n s = q n s
+  orD false false set p q n s = no set n s
 
   unfoldable pub loopD : List ℕ → Walk M → ℕ → Walk M
   loopD set p zero n s = stuck
@@ -83,7 +90,7 @@ module _ {Act : Type 0} {M : Machine Act} where
   tailD c set p zero n s = stuck
   tailD c set p (suc k) n s =
       byD (sees (c ∷ []) (s .rest))
-      (seqD (λ n₁ s₁. sameD (takeP (c ∷ []) s₁) n₁ s₁) (λ n₁ s₁. byD (sees set (s₁ .rest)) (seqD p (tailD c set p k)) done n₁ s₁))
+      (seqD (λ n₁ s₁. sameD (c ∷ []) (takeP (c ∷ []) s₁) n₁ s₁) (λ n₁ s₁. byD (sees set (s₁ .rest)) (seqD p (tailD c set p k)) done n₁ s₁))
       done n s
 
   -- each member takes a token, so there is no limit in these counts
@@ -95,13 +102,14 @@ module _ {Act : Type 0} {M : Machine Act} where
 
   -- a part, where the rules are known
   unfoldable pub walk : {R : Type 0} → (R → List ℕ) → (R → Walk M) → Part Act R → Walk M
-  walk first env skip n s = sameD (skipP s) n s
-  walk first env (act a) n s = sameD (actP a s) n s
-  walk first env (tok set) n s = sameD (takeP set s) n s
-  walk first env (see set) n s = sameD (seeP set s) n s
-  walk first env (call r) n s = byD (sees (first r) (s .rest)) (env r) no n s
+  walk first env skip n s = sameD [] (skipP s) n s
+  walk first env (act a) n s = sameD [] (actP a s) n s
+  walk first env (tok set) n s = sameD set (takeP set s) n s
+  walk first env (see set) n s = sameD set (seeP set s) n s
+  walk first env (call r) n s = byD (sees (first r) (s .rest)) (env r) (no (first r)) n s
   walk first env (p ⨾ q) n s = seqD (walk first env p) (walk first env q) n s
-  walk first env (p ∕ q) n s = byD (sees (begins first p) (s .rest)) (walk first env p) (walk first env q) n s
+  walk first env (p ∕ q) n s =
+      orD (sees (begins first p) (s .rest)) (null q || sees (begins first q) (s .rest)) (begins first p ++ begins first q) (walk first env p) (walk first env q) n s
   walk first env (many p) n s = manyD (begins first p) (walk first env p) n s
   walk first env (tail c p) n s = listD c (begins first p) (walk first env p) n s
 

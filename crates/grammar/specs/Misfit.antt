@@ -1,4 +1,4 @@
--- What refusal 14 says: "the earliest token: .. 14 does it fit the grammar?" (01, Questions).
+-- What refusals 14, 15 and 16 say: "the earliest token: .. 14 does it fit the grammar?" (01, Questions). Which of them it is, the language says.
 -- Assumes nothing.
 use Prim.Native.Nat.{ℕ}
 use mathlib.Core.Path.{_≡_}

@@ -2,7 +2,7 @@
 -- its tests and calls.
 -- Assumes nothing.
 use mathlib.Core.Path.{_≡_, refl, ap, sym, _∙_}
-use mathlib.Core.Bool.{true, false}
+use mathlib.Core.Bool.{Bool, true, false}
 use mathlib.Core.List.{List, [], _∷_, _++_}
 use Prim.Native.Nat.{ℕ, zero, suc, _+_, _-_, _≤_}
 use native.Mathlib.Omega.{arith}
@@ -13,7 +13,7 @@ use lib.Seq.{drop-cons}
 use Rattle.grammar.specs.Sets.{mem}
 use Rattle.grammar.specs.Grammar.{Part, skip, act, tok, see, call, _⨾_, _∕_, many, tail}
 use Rattle.grammar.specs.Trial.{Machine, St, ok, fail, okIf, takeFrom, takeP, actP, skipP}
-use Rattle.grammar.specs.Descent.{Answer, done, no, deep, stuck, Walk, begins, thenD, sameD, seqD, byD, walk, enter, descend}
+use Rattle.grammar.specs.Descent.{Answer, done, no, deep, stuck, Walk, begins, null, thenD, sameD, seqD, byD, orD, walk, enter, descend}
 use Rattle.grammar.specs.Check.{low}
 use Rattle.grammar.proofs.Step.{descend-is, many-is, list-is}
 use Rattle.grammar.proofs.Whole.{Sound, tested}
@@ -28,7 +28,7 @@ use Rattle.leaves.specs.declared.State.{State}
 use Rattle.leaves.specs.declared.Parsed.{Parsed}
 use Rattle.leaves.specs.declared.Parsed.the-variants.{Node, Refused}
 use Rattle.lookahead.specs.Tokens.{eofAt, textBefore, tokensOf, symbolAt}
-use Rattle.leaves.specs.Contract.{past, kept, state, Shape, a-node, Frame, Told, told-node, told-no, told-deep, Rules, Comes, Parts}
+use Rattle.leaves.specs.Contract.{past, kept, state, askedNumber, Shape, a-node, Frame, Told, told-node, told-no, told-deep, Rules, Comes, Parts}
 use Rattle.leaves.proofs.Frames.{frame-none, frame-then}
 use Rattle.lookahead.proofs.Tokens.{symbols-length, symbols-at, sees-at}
 
@@ -40,14 +40,14 @@ good r = tested pyhyeon r (language .passes r)
 pub is-node : {src toks : List ℕ} {out : Shape} {x : Answer (machine src (tokensOf src toks))} {r : Parsed} {tr : List ℕ} {n : NodeNumber} {s : State} {vs : List Value} → Told src toks out vs x r tr → r ≡ Node n s →
     x ≡ done (s .opened) (state src toks s tr (out (n .0) (s .nodes) ∷ vs))
 is-node (told-node n s tr u) e = cc
-is-node (told-no s tr ws u) e = cc
+is-node (told-no asked s tr ws u) e = cc
 is-node (told-deep s tr ws u) e = cc
 
 -- and the text before its token is counted
 pub is-used : {src toks : List ℕ} {out : Shape} {x : Answer (machine src (tokensOf src toks))} {r : Parsed} {tr : List ℕ} {n : NodeNumber} {s : State} {vs : List Value} → Told src toks out vs x r tr → r ≡ Node n s →
     s .used ≡ textBefore src toks (s .at .0)
 is-used {s = s} (told-node n s₁ tr u) e = let d : s₁ ≡ s = cc in rw (← d) u
-is-used (told-no s tr ws u) e = let z : _≡_ {A = ℕ} 0 1 = cc in absurd (omega arith)
+is-used (told-no asked s tr ws u) e = let z : _≡_ {A = ℕ} 0 1 = cc in absurd (omega arith)
 is-used (told-deep s tr ws u) e = let z : _≡_ {A = ℕ} 0 1 = cc in absurd (omega arith)
 
 -- the words that stay, through an answer that is known
@@ -75,23 +75,29 @@ module _ {Act : Type 0} {M : Machine Act} where
   then-assoc : (x : Answer M) (v w : Walk M) → thenD (thenD x v) w ≡ thenD x (seqD v w)
   unfolding thenD seqD
   then-assoc (done n s) v w = refl
-  then-assoc (no n s) v w = refl
+  then-assoc (no asked n s) v w = refl
   then-assoc (deep n s) v w = refl
   then-assoc stuck v w = refl
 
   then-same : (x : Answer M) (v w : Walk M) → ((n : ℕ) (s : St M) → v n s ≡ w n s) → thenD x v ≡ thenD x w
   unfolding thenD
   then-same (done n s) v w h = h n s
-  then-same (no n s) v w h = refl
+  then-same (no asked n s) v w h = refl
   then-same (deep n s) v w h = refl
   then-same stuck v w h = refl
+
+  -- a choice whose last way may be absent is a decision
+  or-by : (b : Bool) (set : List ℕ) (v w : Walk M) (n : ℕ) (s : St M) → byD b v w n s ≡ orD b true set v w n s
+  unfolding byD orD
+  or-by true set v w n s = refl
+  or-by false set v w n s = refl
 
 module _ (src toks : List ℕ) (room : ℕ) where
   -- the walk of a part
   abbrev pub on : Part Action Rule → Walk (machine src (tokensOf src toks))
   on p = walk first (descend pyhyeon room) p
 
-  regroup : (p q : Part Action Rule) (n : ℕ) (s : St (machine src (tokensOf src toks))) → on (p ⨟ q) n s ≡ thenD (on p n s) (on q)
+  pub regroup : (p q : Part Action Rule) (n : ℕ) (s : St (machine src (tokensOf src toks))) → on (p ⨟ q) n s ≡ thenD (on p n s) (on q)
   unfolding walk seqD
   regroup skip q n s = refl
   regroup (act a) q n s = refl
@@ -179,8 +185,10 @@ module _ (src toks : List ℕ) (room : ℕ) (s : State) (tr : List ℕ) (ws : Li
 
     -- behind the comma it is a member and the rest, or nothing
     tail-parts : begins first (p ⨾ tail c p) ≡ begins first p → on src toks room (tail c p ⨾ q) (s .opened) st ≡ on src toks room ((p ⨾ tail c p ∕ skip) ⨾ q) (s .opened) st′
-    unfolding walk seqD thenD sameD byD skipP state
-    tail-parts b = rw (comma, b, sees-at src toks (begins first p) (s .at .0 + 1) h′)
+    unfolding walk seqD sameD null skipP state
+    tail-parts b =
+        rw (comma, b, sees-at src toks (begins first p) (s .at .0 + 1) h′)
+        (ap (λ (x : Answer (machine src (tokensOf src toks))). thenD x (on src toks room q)) (or-by (mem (symbolAt src toks (s .at .0 + 1)) (begins first p)) _ _ done (s .opened) st′))
 
 module _ {src toks : List ℕ} {room : ℕ} {out : Shape} {vs : List Value} {a : Parsed} {t : List ℕ} where
   -- a token that is there, and one that is not
@@ -211,32 +219,6 @@ module _ {src toks : List ℕ} {room : ℕ} {out : Shape} {vs : List Value} {a :
       Comes src toks room q out vs (mid (n .0) (s₁ .nodes) ∷ ws) s₁ tr₁ a t → Comes src toks room (p ⨟ q) out vs (ins ++ ws) s tr a t
   unfolding thenD
   flat-then {p} {q} {ins} {s} {tr = tr} {ws = ws} r e c = record { told = rw (regroup src toks room p q (s .opened) (state src toks s tr (ins ++ ws)), is-node (r .comes ws .told) e) (c .told); frame = frame-node (r .comes ws) e (c .frame) }
-
-  -- an alternative, by its first token; what follows the choice follows each of them
-  pub alt-first : {p p′ q : Part Action Rule} {s : State} {tr : List ℕ} {ws : List Value} → s .at .0 ≤ eofAt toks → mem (symbolAt src toks (s .at .0)) (begins first p) ≡ true →
-      Comes src toks room (p ⨟ q) out vs ws s tr a t → Comes src toks room ((p ∕ p′) ⨾ q) out vs ws s tr a t
-  unfolding walk seqD byD state
-  alt-first {p} {q = q} {s = s} {tr = tr} {ws = ws} h e c =
-      let b = sees-at src toks (begins first p) (s .at .0) h ∙ e in
-      record { told = rw b (rw (regroup src toks room p q (s .opened) (state src toks s tr ws)) at (c .told)); frame = c .frame }
-
-  pub alt-next : {p p′ q : Part Action Rule} {s : State} {tr : List ℕ} {ws : List Value} → s .at .0 ≤ eofAt toks → mem (symbolAt src toks (s .at .0)) (begins first p) ≡ false →
-      Comes src toks room (p′ ⨟ q) out vs ws s tr a t → Comes src toks room ((p ∕ p′) ⨾ q) out vs ws s tr a t
-  unfolding walk seqD byD state
-  alt-next {p} {p′} {q = q} {s = s} {tr = tr} {ws = ws} h e c =
-      let b = sees-at src toks (begins first p) (s .at .0) h ∙ e in
-      record { told = rw b (rw (regroup src toks room p′ q (s .opened) (state src toks s tr ws)) at (c .told)); frame = c .frame }
-
-  -- the same at the end of a rule
-  pub or-first : {p p′ : Part Action Rule} {s : State} {tr : List ℕ} {ws : List Value} → s .at .0 ≤ eofAt toks → mem (symbolAt src toks (s .at .0)) (begins first p) ≡ true →
-      Comes src toks room p out vs ws s tr a t → Comes src toks room (p ∕ p′) out vs ws s tr a t
-  unfolding walk byD state
-  or-first {p} {s = s} h e c = let b = sees-at src toks (begins first p) (s .at .0) h ∙ e in record { told = rw b (c .told); frame = c .frame }
-
-  pub or-next : {p p′ : Part Action Rule} {s : State} {tr : List ℕ} {ws : List Value} → s .at .0 ≤ eofAt toks → mem (symbolAt src toks (s .at .0)) (begins first p) ≡ false →
-      Comes src toks room p′ out vs ws s tr a t → Comes src toks room (p ∕ p′) out vs ws s tr a t
-  unfolding walk byD state
-  or-next {p} {s = s} h e c = let b = sees-at src toks (begins first p) (s .at .0) h ∙ e in record { told = rw b (c .told); frame = c .frame }
 
   -- what is repeated: one more, or no more
   pub many-on : {p q : Part Action Rule} {s : State} {tr : List ℕ} {ws : List Value} → T (low pyhyeon 100 100 (many p)) → s .at .0 ≤ eofAt toks → mem (symbolAt src toks (s .at .0)) (begins first p) ≡ true →
@@ -297,7 +279,7 @@ module _ {src toks : List ℕ} {room : ℕ} {r : Rule} {out : Shape} {s : State}
 stop : {src toks : List ℕ} {out mid : Shape} {vs : List Value} {x : Answer (machine src (tokensOf src toks))} {b : Parsed} {t : List ℕ} {k : ℕ} {s₁ : State} {us : List Value} (w : Walk (machine src (tokensOf src toks))) → Told src toks mid us x b t → b ≡ Refused k s₁ → Told src toks out vs (thenD x w) (Refused k s₁) t
 unfolding thenD
 stop w (told-node n s tr u) e = absurd (let z : _≡_ {A = ℕ} 0 1 = cc in omega arith)
-stop w (told-no s tr ws u) e = rw (← e) (told-no s tr ws u)
+stop w (told-no asked s tr ws u) e = rw (← e) (told-no asked s tr ws u)
 stop w (told-deep s tr ws u) e = rw (← e) (told-deep s tr ws u)
 
 -- where a part ends: the node, or the refusal
@@ -316,10 +298,10 @@ module _ {src toks : List ℕ} {room : ℕ} {out : Shape} {vs : List Value} wher
       Comes src toks room (many p) out vs (out (n .0) (s .nodes) ∷ vs) s tr (Node n s) tr
   turn-end {p} {s} {tr} {n} l h e u = record { told = rw (many-none src toks room s tr (out (n .0) (s .nodes) ∷ vs) h p l e) (told-node n s tr u); frame = frame-none }
 
-  pub tok-not : {set : List ℕ} {q : Part Action Rule} {s : State} {tr : List ℕ} {ws : List Value} → s .at .0 ≤ eofAt toks → s .used ≡ textBefore src toks (s .at .0) → mem (symbolAt src toks (s .at .0)) set ≡ false →
-      Comes src toks room (tok set ⨾ q) out vs ws s tr (Refused 14 s) tr
+  pub tok-not : {set : List ℕ} {k : ℕ} {q : Part Action Rule} {s : State} {tr : List ℕ} {ws : List Value} → s .at .0 ≤ eofAt toks → s .used ≡ textBefore src toks (s .at .0) → mem (symbolAt src toks (s .at .0)) set ≡ false → askedNumber set ≡ k →
+      Comes src toks room (tok set ⨾ q) out vs ws s tr (Refused k s) tr
   unfolding walk seqD thenD sameD
-  tok-not {set} {s = s} {tr = tr} {ws = ws} h u e = record { told = rw (take-unseen src toks set s tr ws h e) (told-no s tr ws u); frame = frame-none }
+  tok-not {set} {s = s} {tr = tr} {ws = ws} h u e a = record { told = rw (take-unseen src toks set s tr ws h e, ← a) (told-no set s tr ws u); frame = frame-none }
 
   pub part-stop : {p q : Part Action Rule} {ins : List Value} {s s₁ : State} {tr tr₁ : List ℕ} {b : Parsed} {k : ℕ} {mid : Shape} (ws : List Value) → Parts src toks room p ins mid s tr b tr₁ → b ≡ Refused k s₁ →
       Comes src toks room (p ⨾ q) out vs (ins ++ ws) s tr (Refused k s₁) tr₁
@@ -337,10 +319,10 @@ module _ {src toks : List ℕ} {room : ℕ} {r : Rule} {out : Shape} {s : State}
   unfolding walk byD state
   called h e c = record { comes = λ vs. record { told = rw (sees-at src toks (first r) (s .at .0) h ∙ e) (c .told vs); frame = c .frame } }
 
-  pub no-call : s .at .0 ≤ eofAt toks → s .used ≡ textBefore src toks (s .at .0) → mem (symbolAt src toks (s .at .0)) (first r) ≡ false → Parts src toks room (call r) [] out s tr (Refused 14 s) tr
+  pub no-call : {k : ℕ} → s .at .0 ≤ eofAt toks → s .used ≡ textBefore src toks (s .at .0) → mem (symbolAt src toks (s .at .0)) (first r) ≡ false → askedNumber (first r) ≡ k → Parts src toks room (call r) [] out s tr (Refused k s) tr
   unfolding walk byD state
-  no-call h u e = record { comes = λ vs. record { told = rw (sees-at src toks (first r) (s .at .0) h ∙ e) (told-no s tr vs u); frame = frame-none } }
+  no-call h u e a = record { comes = λ vs. record { told = rw (sees-at src toks (first r) (s .at .0) h ∙ e, ← a) (told-no (first r) s tr vs u); frame = frame-none } }
 
 -- the same where more was to follow, and so any shape will do
-pub not-called : {src toks : List ℕ} {room : ℕ} {r : Rule} {s : State} {tr : List ℕ} → s .at .0 ≤ eofAt toks → s .used ≡ textBefore src toks (s .at .0) → mem (symbolAt src toks (s .at .0)) (first r) ≡ false → Parts src toks room (call r) [] a-node s tr (Refused 14 s) tr
+pub not-called : {src toks : List ℕ} {room : ℕ} {r : Rule} {s : State} {tr : List ℕ} {k : ℕ} → s .at .0 ≤ eofAt toks → s .used ≡ textBefore src toks (s .at .0) → mem (symbolAt src toks (s .at .0)) (first r) ≡ false → askedNumber (first r) ≡ k → Parts src toks room (call r) [] a-node s tr (Refused k s) tr
 not-called = no-call

@@ -1,4 +1,5 @@
 pub mod Chain
+pub mod Choices
 pub mod Counts
 pub mod Bounds
 pub mod Ends

@@ -22,6 +22,7 @@ use Rattle.lexer.proofs.Laws.{tokens-few, text-few, tokens-spanned, tokens-end,
 use Rattle.ast.specs.Words.{tabulate}
 use Rattle.grammar.specs.Limits.{before}
 use Rattle.pyhyeon.specs.Symbol.{symbol, symbols}
+use Rattle.pyhyeon.specs.Missing.{Fault, faultNumber}
 use Rattle.pyhyeon.specs.Reading.{Work, Misfit, descent}
 use Rattle.pyhyeon.specs.Earliest.{Earliest}
 use Rattle.pyhyeon.proofs.Earliest.{earliest}
@@ -122,9 +123,9 @@ module _ (s : List ℕ) (ts : List Token) (bs : List ℕ) where
       let l = tokens-end s ts bs e in
       ap (λ us. before Eof (symbols s us)) (l .last) ∙ before-last s (length s) (l .once) ∙ omega (arith, front-length l)
 
-  -- Eof is among them, so 14 stands at the start of the script's earliest token that does not fit
-  pub script-earliest : tokenList s ≡ scanned ts bs → (place : ℕ) (w : Work) → descent s ts ≡ Misfit place w → Earliest s ts place
-  script-earliest e place w d = earliest s ts place w (omega (arith, tokens-counted e, front-length (tokens-end s ts bs e))) d
+  -- Eof is among them, so 14, 15 and 16 stand at the start of the script's earliest token that does not fit, each by what that tells
+  pub script-earliest : tokenList s ≡ scanned ts bs → (f : Fault) (place : ℕ) (w : Work) → descent s ts ≡ Misfit f place w → Earliest s ts (faultNumber f) place
+  script-earliest e f place w d = earliest s ts f place w (omega (arith, tokens-counted e, front-length (tokens-end s ts bs e))) d
 
   -- and what code may ask of words holds of them
   pub promised : length s ≤ 65536 → tokenList s ≡ scanned ts bs → Tokens s (words ts)

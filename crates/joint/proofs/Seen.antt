@@ -17,7 +17,7 @@ use Rattle.leaves.specs.declared.State.{State}
 use Rattle.leaves.specs.declared.Parsed.{Parsed}
 use Rattle.leaves.specs.declared.Parsed.the-variants.{Node, Refused}
 use Rattle.lookahead.specs.Tokens.{eofAt, textBefore, tokensOf, symbolAt}
-use Rattle.leaves.specs.Contract.{past, state, Shape, told-no, Comes}
+use Rattle.leaves.specs.Contract.{past, state, askedNumber, Shape, told-no, Comes}
 use Rattle.leaves.proofs.Frames.{frame-none}
 use Rattle.lookahead.proofs.Tokens.{sees-at}
 use Rattle.joint.proofs.Chain.{tok-then, tok-not, skip-end}
@@ -25,7 +25,7 @@ use Rattle.joint.proofs.Chain.{tok-then, tok-not, skip-end}
 then-skip : (src toks : List ℕ) (room : ℕ) (x : Answer (machine src (tokensOf src toks))) → thenD x (walk first (descend pyhyeon room) skip) ≡ x
 unfolding thenD walk sameD skipP
 then-skip src toks room (done n s) = refl
-then-skip src toks room (no n s) = refl
+then-skip src toks room (no asked n s) = refl
 then-skip src toks room (deep n s) = refl
 then-skip src toks room stuck = refl
 
@@ -41,22 +41,22 @@ module _ {src toks : List ℕ} {room : ℕ} {out : Shape} {vs : List Value} {a :
   see-then {set} {s = s} h e c = let b = sees-at src toks set (s .at .0) h ∙ e in record { told = rw b (c .told); frame = c .frame }
 
 module _ {src toks : List ℕ} {room : ℕ} {out : Shape} {vs : List Value} where
-  pub see-not : {set : List ℕ} {q : Part Action Rule} {s : State} {tr : List ℕ} {ws : List Value} → s .at .0 ≤ eofAt toks → s .used ≡ textBefore src toks (s .at .0) → mem (symbolAt src toks (s .at .0)) set ≡ false →
-      Comes src toks room (see set ⨾ q) out vs ws s tr (Refused 14 s) tr
+  pub see-not : {set : List ℕ} {k : ℕ} {q : Part Action Rule} {s : State} {tr : List ℕ} {ws : List Value} → s .at .0 ≤ eofAt toks → s .used ≡ textBefore src toks (s .at .0) → mem (symbolAt src toks (s .at .0)) set ≡ false → askedNumber set ≡ k →
+      Comes src toks room (see set ⨾ q) out vs ws s tr (Refused k s) tr
   unfolding walk seqD thenD sameD seeP okIf state
-  see-not {set} {s = s} {tr = tr} {ws = ws} h u e = let b = sees-at src toks set (s .at .0) h ∙ e in record { told = rw b (told-no s tr ws u); frame = frame-none }
+  see-not {set} {s = s} {tr = tr} {ws = ws} h u e a = let b = sees-at src toks set (s .at .0) h ∙ e in record { told = rw (b, ← a) (told-no set s tr ws u); frame = frame-none }
 
   -- the same at the end of a part
   pub see-end : {set : List ℕ} {s : State} {tr : List ℕ} {n : NodeNumber} → s .at .0 ≤ eofAt toks → mem (symbolAt src toks (s .at .0)) set ≡ true → s .used ≡ textBefore src toks (s .at .0) →
       Comes src toks room (see set) out vs (out (n .0) (s .nodes) ∷ vs) s tr (Node n s) tr
   see-end h e u = unskip (see-then h e (skip-end u))
 
-  pub see-no : {set : List ℕ} {s : State} {tr : List ℕ} {ws : List Value} → s .at .0 ≤ eofAt toks → s .used ≡ textBefore src toks (s .at .0) → mem (symbolAt src toks (s .at .0)) set ≡ false → Comes src toks room (see set) out vs ws s tr (Refused 14 s) tr
-  see-no h u e = unskip (see-not h u e)
+  pub see-no : {set : List ℕ} {k : ℕ} {s : State} {tr : List ℕ} {ws : List Value} → s .at .0 ≤ eofAt toks → s .used ≡ textBefore src toks (s .at .0) → mem (symbolAt src toks (s .at .0)) set ≡ false → askedNumber set ≡ k → Comes src toks room (see set) out vs ws s tr (Refused k s) tr
+  see-no h u e a = unskip (see-not h u e a)
 
   pub tok-end : {set : List ℕ} {s : State} {tr : List ℕ} {n : NodeNumber} → s .at .0 ≤ eofAt toks → mem (symbolAt src toks (s .at .0)) set ≡ true → s .used ≡ textBefore src toks (s .at .0 + 1) →
       Comes src toks room (tok set) out vs (out (n .0) (s .nodes) ∷ vs) s tr (Node n (past s)) tr
   tok-end h e u = unskip (tok-then h e (skip-end u))
 
-  pub tok-no : {set : List ℕ} {s : State} {tr : List ℕ} {ws : List Value} → s .at .0 ≤ eofAt toks → s .used ≡ textBefore src toks (s .at .0) → mem (symbolAt src toks (s .at .0)) set ≡ false → Comes src toks room (tok set) out vs ws s tr (Refused 14 s) tr
-  tok-no h u e = unskip (tok-not h u e)
+  pub tok-no : {set : List ℕ} {k : ℕ} {s : State} {tr : List ℕ} {ws : List Value} → s .at .0 ≤ eofAt toks → s .used ≡ textBefore src toks (s .at .0) → mem (symbolAt src toks (s .at .0)) set ≡ false → askedNumber set ≡ k → Comes src toks room (tok set) out vs ws s tr (Refused k s) tr
+  tok-no h u e a = unskip (tok-not h u e a)

@@ -18,6 +18,7 @@ use Rattle.pyhyeon.specs.Machine.{Value, node, growing, list, Kept, write}
 use Rattle.pyhyeon.specs.Action.{Action, literal, unaryNode, wrap, binaryOf, perform, machine}
 use Rattle.pyhyeon.specs.Rules.{Rule}
 use Rattle.pyhyeon.specs.Tables.{first, pyhyeon}
+use Rattle.pyhyeon.specs.Missing.{faultNumber, askedFault}
 use Rattle.lookahead.specs.Tokens.{eofAt, textBefore, tokensOf, symbolAt, Tokens}
 use Rattle.leaves.specs.declared.State.{State}
 use Rattle.leaves.specs.declared.Added.{Added}
@@ -63,11 +64,16 @@ abbrev pub written : Parsed → ℕ
 written (Node n s) = s .nodes
 written (Refused k s) = s .nodes
 
--- What the descent comes to, and the answer and the tree of the code: one value more at hand (`out` says which); or a refusal, 14 or 13, at the state's
--- token, with whatever is at hand. The state has counted the text before its token.
+-- What was asked for, as code hands it on: by the number that a Newline or Dedent has there, 16 for an expression or operand and 14 for all else. Which number
+-- the refusal has in the end, the reader tells by the token.
+abbrev pub askedNumber : List ℕ → ℕ
+askedNumber asked = faultNumber (askedFault asked)
+
+-- What the descent comes to, and the answer and the tree of the code: one value more at hand (`out` says which); or a refusal at the state's token, with
+-- whatever is at hand: 13, or what was asked for. The state has counted the text before its token.
 pub data Told (src toks : List ℕ) (out : Shape) (vs : List Value) : Answer (machine src (tokensOf src toks)) → Parsed → List ℕ → Type 0 where
   told-node : (n : NodeNumber) (s : State) (tr : List ℕ) → s .used ≡ textBefore src toks (s .at .0) → Told src toks out vs (done (s .opened) (state src toks s tr (out (n .0) (s .nodes) ∷ vs))) (Node n s) tr
-  told-no : (s : State) (tr : List ℕ) (ws : List Value) → s .used ≡ textBefore src toks (s .at .0) → Told src toks out vs (no (s .opened) (state src toks s tr ws)) (Refused 14 s) tr
+  told-no : (asked : List ℕ) (s : State) (tr : List ℕ) (ws : List Value) → s .used ≡ textBefore src toks (s .at .0) → Told src toks out vs (no asked (s .opened) (state src toks s tr ws)) (Refused (askedNumber asked) s) tr
   told-deep : (s : State) (tr : List ℕ) (ws : List Value) → s .used ≡ textBefore src toks (s .at .0) → Told src toks out vs (deep (s .opened) (state src toks s tr ws)) (Refused 13 s) tr
 
 -- The answer is what the descent of the rule r comes to, from s on, with room for so many more E and Block, whatever values are at hand.

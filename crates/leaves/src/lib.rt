@@ -37,8 +37,8 @@ pub fn past(s: State) -> State
     }
 }
 
-// The answer of a rule or a part: the node that it read, or the first of a list, which may be none; or the number of a refusal, which stands at the
-// state's token. The state is handed on in both.
+// The answer of a rule or a part: the node that it read, or the first of a list, which may be none; or a refusal, which stands at the state's token, by 13 or by
+// what was asked for there: 16 for an expression or operand, which is its number at a Newline or Dedent, and 14 for all else. The state is handed on in both.
 pub enum Parsed {
     Node(NodeNumber, State),
     Refused(u32, State),

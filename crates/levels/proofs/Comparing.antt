@@ -22,7 +22,8 @@ use Rattle.leaves.specs.declared.Parsed.{Parsed}
 use Rattle.leaves.specs.declared.Parsed.the-variants.{Node}
 use Rattle.lookahead.specs.Tokens.{eofAt, textBefore, symbolAt}
 use Rattle.leaves.specs.Contract.{past, added, a-node, Comes}
-use Rattle.joint.proofs.Chain.{act-then, or-first, or-next, skip-end, many-on, many-end}
+use Rattle.joint.proofs.Chain.{act-then, skip-end, many-on, many-end}
+use Rattle.joint.proofs.Choices.{absent, or-first, or-next}
 use Rattle.joint.proofs.Ends.{tok-mark, compared-last}
 use Rattle.levels.specs.declared.Level.the-variants as level
 use Rattle.levels.specs.declared.Chain.{Chain}
@@ -95,7 +96,7 @@ value (links.Further op l x) m n = chain m n
 module _ {src toks : List ℕ} {room : ℕ} {s : State} {tr : List ℕ} {vs : List Value} where
   pub compares-end : (b : Chain) (m n : NodeNumber) → s .at .0 ≤ eofAt toks → mem (symbolAt src toks (s .at .0)) comparisons ≡ false → s .used ≡ textBefore src toks (s .at .0) → Comes src toks room (behind b) a-node vs (value b (m .0) (n .0) ∷ vs) s tr (Node m s) tr
   unfolding first begins null
-  compares-end links.Nothing m n h f u = or-next h f (skip-end u)
+  compares-end links.Nothing m n h f u = or-next h f (absent refl) (skip-end u)
   compares-end (links.First o l) m n h f u = many-end low-further h f (compared-last u)
   compares-end (links.Further o l x) m n h f u = many-end low-further h f (compared-last u)
 

@@ -20,7 +20,7 @@ use Rattle.leaves.specs.declared.Added.{Added}
 use Rattle.leaves.specs.declared.Parsed.{Parsed}
 use Rattle.leaves.specs.declared.Parsed.the-variants.{Node, Refused}
 use Rattle.lookahead.specs.Tokens.{eofAt, textBefore, symbolAt}
-use Rattle.leaves.specs.Contract.{past, added, a-node, Rules, Comes, Parts, Ready, Spot}
+use Rattle.leaves.specs.Contract.{askedNumber, past, added, a-node, Rules, Comes, Parts, Ready, Spot}
 use Rattle.lookahead.proofs.Tokens.{before-eof, Took, took}
 use Rattle.joint.proofs.Bounds.{Grown, after-rule}
 use Rattle.joint.proofs.Chain.{called, not-called, part-then, part-stop}
@@ -183,8 +183,8 @@ module _ {B : Type 0} {g : Joint B} (w : Turn g) where
     taken : Took (o .src) (o .toks) (w .made .1 .at .0)
     taken = took (operators (g .level)) (no-eof (g .level)) (no-string (g .level)) (i .ready .tokens) turn-here f
 
-    pub turn-misses : mem (symbolAt (o .src) (o .toks) (w .made .1 .at .0 + 1)) firstU ≡ false → (vs : List Value) → Body vs (Refused 14 on) (w .tr₂)
-    turn-misses h vs = rw d (behind-is (g .turns (o .b) (w .made .0) (o .n) turn-here f (part-stop _ (not-called (taken .inside) (used ∙ sym (taken .text)) (rw (first-same (g .level)) h)) refl)))
+    pub turn-misses : mem (symbolAt (o .src) (o .toks) (w .made .1 .at .0 + 1)) firstU ≡ false → (vs : List Value) → Body vs (Refused 16 on) (w .tr₂)
+    turn-misses h vs = rw d (behind-is (g .turns (o .b) (w .made .0) (o .n) turn-here f (part-stop _ (not-called (taken .inside) (used ∙ sym (taken .text)) (rw (first-same (g .level)) h) (ap askedNumber (first-same (g .level)))) refl)))
 
     pub turn-less : o .st .at .0 < on .at .0
     turn-less = rw d (omega (arith, at-same, grown o .on))

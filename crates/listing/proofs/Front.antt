@@ -43,7 +43,7 @@ records-long (n ∷ ns) = omega (arith, records-long ns)
 by-descent : (n : ℕ) (ts : List Token) (bs : List ℕ) (d : Descended) → IsSized (ofDescent n ts bs d)
 by-descent n ts bs (Accepted w) = record { sized = omega (arith, records-long (w .nodes)) }
 by-descent n ts bs (TooDeep place w) = record { sized = tt }
-by-descent n ts bs (Misfit place w) = record { sized = tt }
+by-descent n ts bs (Misfit f place w) = record { sized = tt }
 
 by-scan : (src : List ℕ) (s : Scan) → IsSized (ofScan src s)
 by-scan src (refused number place) = record { sized = tt }

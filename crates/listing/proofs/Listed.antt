@@ -6,7 +6,7 @@ use Rattle.source.specs.Text.{bytes}
 use Rattle.utf8.specs.Table.{rows, sequenceLength, firstIllFormed, utf8Error}
 use Rattle.lexer.specs.Scan.{Scan}
 use Rattle.grammar.specs.Trial.{skipP, okIf, takeFrom, takeP, seeP, actP, enough}
-use Rattle.grammar.specs.Descent.{null, begins, thenD, sameD, seqD, byD, loopD, tailD, manyD, listD, walk, enter, ruleD, descend}
+use Rattle.grammar.specs.Descent.{null, begins, thenD, sameD, seqD, byD, orD, loopD, tailD, manyD, listD, walk, enter, ruleD, descend}
 use Rattle.ast.specs.Words.{nodesOf}
 use Rattle.pyhyeon.specs.Symbol.{symbols}
 use Rattle.pyhyeon.specs.Action.{perform}
@@ -28,5 +28,5 @@ pub listed : listing (bytes "a<b<c\n") ≡
     ++ bytes "5 25 0 5 - 13 2 4 0\n"
     ++ bytes "6 12 0 5 - 5 0 0 0\n"
     ++ bytes "7 1 0 6 - 6 0 0 0\n"
-unfolding skipP okIf takeFrom takeP seeP actP enough listing outcome utf8Error firstIllFormed sequenceLength rows printed printedTree nodeLines spaced digits nodesOf null begins thenD sameD seqD byD loopD tailD manyD listD walk enter ruleD descend symbols perform plain joined first opens start descent
+unfolding skipP okIf takeFrom takeP seeP actP enough listing outcome utf8Error firstIllFormed sequenceLength rows printed printedTree nodeLines spaced digits nodesOf null begins thenD sameD seqD byD orD loopD tailD manyD listD walk enter ruleD descend symbols perform plain joined first opens start descent
 listed = ap (λ (s : Scan). printedOutcome (ofScan (bytes "a<b<c\n") s)) (starred.printed .scans)

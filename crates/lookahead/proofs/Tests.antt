@@ -13,6 +13,10 @@ pub or-none : (b : Bool) → (b || false) ≡ b
 or-none true = refl
 or-none false = refl
 
+pub or-true : (b : Bool) → (b || true) ≡ true
+or-true true = refl
+or-true false = refl
+
 -- what the test returned, what its contract says of that, and which symbol it was given
 pub learnt : (set : List ℕ) {b r : Bool} {k c : ℕ} → r ≡ b → r ≡ mem k set → k ≡ c → mem c set ≡ b
 learnt set p q e = ap (λ (x : ℕ). mem x set) (sym e) ∙ sym q ∙ p
@@ -49,3 +53,25 @@ of-second (y ∷ a) b c e f = go (eqb c y) e f (of-second a b c)
     go : (x : Bool) → (x || mem c a) ≡ false → (x || mem c (a ++ b)) ≡ true → (mem c a ≡ false → mem c (a ++ b) ≡ true → mem c b ≡ true) → mem c b ≡ true
     go true e f g = let z : _≡_ {A = ℕ} 0 1 = cc in absurd (omega arith)
     go false e f g = g e f
+
+-- a symbol of the first set, or of the second, is of both together
+pub among-first : (a b : List ℕ) (c : ℕ) → mem c a ≡ true → mem c (a ++ b) ≡ true
+among-first [] b c e = let z : _≡_ {A = ℕ} 0 1 = cc in absurd (omega arith)
+among-first (y ∷ a) b c e = go (eqb c y) e (among-first a b c)
+  where
+    go : (x : Bool) → (x || mem c a) ≡ true → (mem c a ≡ true → mem c (a ++ b) ≡ true) → (x || mem c (a ++ b)) ≡ true
+    go true e f = refl
+    go false e f = f e
+
+pub among-second : (a b : List ℕ) (c : ℕ) → mem c b ≡ true → mem c (a ++ b) ≡ true
+among-second [] b c e = e
+among-second (y ∷ a) b c e = rw (among-second a b c e) (or-true (eqb c y))
+
+-- a symbol of neither set
+pub of-neither : (a b : List ℕ) (c : ℕ) → mem c (a ++ b) ≡ false → (mem c a ≡ false) × (mem c b ≡ false)
+of-neither [] b c e = (refl, e)
+of-neither (y ∷ a) b c e = go (eqb c y) e (of-neither a b c)
+  where
+    go : (x : Bool) → (x || mem c (a ++ b)) ≡ false → (mem c (a ++ b) ≡ false → (mem c a ≡ false) × (mem c b ≡ false)) → ((x || mem c a) ≡ false) × (mem c b ≡ false)
+    go true e f = let z : _≡_ {A = ℕ} 0 1 = cc in absurd (omega arith)
+    go false e f = f e

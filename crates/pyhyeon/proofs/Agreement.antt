@@ -17,35 +17,36 @@ use Rattle.pyhyeon.specs.Machine.{blank}
 use Rattle.pyhyeon.specs.Action.{machine}
 use Rattle.pyhyeon.specs.Rules.{Rule, Program, plain}
 use Rattle.pyhyeon.specs.Tables.{depth, pyhyeon}
+use Rattle.pyhyeon.specs.Missing.{Fault}
 use Rattle.pyhyeon.specs.Reading.{Work, Descended, Accepted, Misfit, Tried, Fits, Agree, both-accept, both-refuse, set-aside, Fails, start, descended, descent, tried, trial}
 use Rattle.pyhyeon.proofs.Language.{language, theorem}
 
 module _ (source : List ℕ) (toks : List Token) where
   agree : {o : Out (machine source toks)} {x : Answer (machine source toks)} → Verdict o x → Agree (tried source toks o) (descended source toks x)
   agree (Verdict.accepted n) = both-accept _
-  agree (Verdict.refused n) = both-refuse _ _
+  agree (Verdict.refused n) = both-refuse _ _ _
   agree (Verdict.thirteen n) = set-aside _ _ _
 
   pub agreement : Agree (trial source toks) (descent source toks)
   unfolding trial descent
   agreement = agree (theorem (start source toks))
 
-  -- what the descent accepts the trial accepts, with the same nodes; what it refuses with 14 the trial refuses
+  -- what the descent accepts the trial accepts, with the same nodes; what it refuses with 14, 15 or 16 the trial refuses
   accept : {t : Tried} {d : Descended} (w : Work) → Agree t d → d ≡ Accepted w → t ≡ Fits (w .nodes)
   accept w (both-accept w₁) e = cc
-  accept w (both-refuse place w₁) e = cc
+  accept w (both-refuse f place w₁) e = cc
   accept w (set-aside t place w₁) e = cc
 
   pub accepts : (w : Work) → descent source toks ≡ Accepted w → trial source toks ≡ Fits (w .nodes)
   accepts w e = accept w agreement e
 
-  refuse : {t : Tried} {d : Descended} (place : ℕ) (w : Work) → Agree t d → d ≡ Misfit place w → t ≡ Fails
-  refuse place w (both-accept w₁) e = cc
-  refuse place w (both-refuse place₁ w₁) e = refl
-  refuse place w (set-aside t place₁ w₁) e = cc
+  refuse : {t : Tried} {d : Descended} (f : Fault) (place : ℕ) (w : Work) → Agree t d → d ≡ Misfit f place w → t ≡ Fails
+  refuse f place w (both-accept w₁) e = cc
+  refuse f place w (both-refuse f₁ place₁ w₁) e = refl
+  refuse f place w (set-aside t place₁ w₁) e = cc
 
-  pub refuses : (place : ℕ) (w : Work) → descent source toks ≡ Misfit place w → trial source toks ≡ Fails
-  refuses place w e = refuse place w agreement e
+  pub refuses : (f : Fault) (place : ℕ) (w : Work) → descent source toks ≡ Misfit f place w → trial source toks ≡ Fails
+  refuses f place w e = refuse f place w agreement e
 
   -- trial and descent always answer
   pub trial-answers : parse plain Program (start source toks) ≡ out → ⊥
@@ -66,9 +67,9 @@ pub map-length : {A B : Type 0} (f : A → B) (l : List A) → length (map f l) 
 map-length f [] = refl
 map-length f (x ∷ l) = ap suc (map-length f l)
 
--- 14 is never too early. The descent refuses the tokens w and then v at a token of w, as more are left than v has: then no
+-- 14, 15 and 16 are never too early. The descent refuses the tokens w and then v at a token of w, as more are left than v has: then no
 -- script whose tokens begin as w does is accepted.
-pub first-misfit : (source source′ : List ℕ) (w v w′ v′ : List Token) (m : ℕ) (s : St (machine source (w ++ v))) → descend pyhyeon depth Program 0 (start source (w ++ v)) ≡ no m s →
+pub first-misfit : {asked : List ℕ} (source source′ : List ℕ) (w v w′ v′ : List Token) (m : ℕ) (s : St (machine source (w ++ v))) → descend pyhyeon depth Program 0 (start source (w ++ v)) ≡ no asked m s →
     length v < length (s .rest) → symbols source w ≡ symbols source′ w′ → trial source′ (w′ ++ v′) ≡ Fails
 unfolding symbols start trial
 first-misfit source source′ w v w′ v′ m s e lt same =

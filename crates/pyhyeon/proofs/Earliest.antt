@@ -1,4 +1,4 @@
--- 14 stands at the earliest token that does not fit: never too early, never too late.
+-- 14, 15 and 16 stand at the earliest token that does not fit, never too early, never too late; and each says what that token tells.
 -- Assumes nothing.
 use mathlib.Core.Path.{_≡_, refl, ap, sym, subst, _∙_}
 use mathlib.Core.List.{List, _∷_, _++_, map, map-append, append-cancel-left}
@@ -13,7 +13,7 @@ use Rattle.grammar.specs.Misfit as fit
 use Rattle.grammar.proofs.Ends.{at-no}
 use Rattle.grammar.proofs.Along.{Keeps, singly, descend-along}
 use Rattle.grammar.proofs.Limits as all
-use Rattle.grammar.proofs.Late.{one-misfit, at-misfit}
+use Rattle.grammar.proofs.Late.{one-misfit, at-misfit, at-refusal}
 use Rattle.token.specs.Code.{Eof}
 use Rattle.tokens.specs.Token.{Token}
 use Rattle.pyhyeon.specs.Symbol.{symbol, symbols}
@@ -22,13 +22,15 @@ use Rattle.pyhyeon.specs.Action.{tokenAt, machine}
 use Rattle.pyhyeon.specs.Rules.{Program}
 use Rattle.pyhyeon.specs.Tables.{follow, depth, pyhyeon}
 use Rattle.pyhyeon.specs.Prices.{prices}
-use Rattle.pyhyeon.specs.Reading.{Work, Misfit, start, descended, descent}
-use Rattle.pyhyeon.specs.Earliest.{Accepts, isToken, Earliest}
+use Rattle.pyhyeon.specs.Missing.{Fault, faultNumber, faultOf}
+use Rattle.pyhyeon.specs.Reading.{Work, Misfit, start, code, here, descended, descent}
+use Rattle.pyhyeon.specs.Earliest.{Accepts, isToken, Numbered, cut, missing, wrong, Earliest}
 use Rattle.pyhyeon.proofs.Language.{language}
 use Rattle.pyhyeon.proofs.Agreement.{map-length, descent-answers}
 use Rattle.pyhyeon.proofs.Meter.{act-at, counted, meter}
 use Rattle.pyhyeon.proofs.Limits.{frugal}
 use Rattle.pyhyeon.proofs.Late.{height, isCode, finishes, of-misfit}
+use Rattle.pyhyeon.proofs.Missing.{numbered}
 
 module _ (source : List ℕ) (toks : List Token) where
   -- the number of the next token and the number of tokens that are left keep their sum
@@ -45,7 +47,7 @@ module _ (source : List ℕ) (toks : List Token) where
   }
 
   -- the descent is refused at s
-  module _ (m : ℕ) (s : St (machine source toks)) (e : descend pyhyeon depth Program 0 (start source toks) ≡ no m s) where
+  module _ {asked : List ℕ} (m : ℕ) (s : St (machine source toks)) (e : descend pyhyeon depth Program 0 (start source toks) ≡ no asked m s) where
     -- as many are left as stand from its number on
     counts : s .kept .at + length (s .rest) ≡ length toks
     unfolding start symbols
@@ -56,15 +58,25 @@ module _ (source : List ℕ) (toks : List Token) where
     unfolding start meter counted
     left lt = let h = at-no (all.whole pyhyeon prices frugal (meter source toks) depth Program (start source toks) refl refl) e in omega (arith, counts, h .sum)
 
-    -- the next token is t, between w and v: it is the first that does not fit
-    misfit : (w v : List Token) (t : Token) → w ++ (t ∷ v) ≡ toks → length (s .rest) ≡ suc (length v) → fit.Misfit isToken (Accepts source) w t
-    unfolding start symbols follow
-    misfit w v t e₁ n =
-        let a : map (symbol source) toks ≡ map (symbol source) w ++ (symbol source t ∷ map (symbol source) v) = ap (map (symbol source)) (sym e₁) ∙ map-append (symbol source) w (t ∷ v) in
-        of-misfit source toks w t
-        (at-misfit language isCode height finishes tt {M = machine source toks} depth 0 m (map (symbol source) w) (symbol source t) (map (symbol source) v) blank s (rw a at e) (n ∙ ap suc (sym (map-length (symbol source) v))))
+    -- the next token is t, between w and v: it is the first that does not fit, and its number is that of the refusal
+    module _ (w v : List Token) (t : Token) (e₁ : w ++ (t ∷ v) ≡ toks) (n : length (s .rest) ≡ suc (length v)) where
+      apart : map (symbol source) toks ≡ map (symbol source) w ++ (symbol source t ∷ map (symbol source) v)
+      apart = ap (map (symbol source)) (sym e₁) ∙ map-append (symbol source) w (t ∷ v)
 
-    refusal : before Eof (symbols source toks) < length toks → Earliest source toks (tokenAt source toks (s .kept .at) .start)
+      as-many : length (s .rest) ≡ suc (length (map (symbol source) v))
+      as-many = n ∙ ap suc (sym (map-length (symbol source) v))
+
+      misfit : fit.Misfit isToken (Accepts source) w t
+      unfolding start symbols follow
+      misfit = of-misfit source toks w t
+          (at-misfit language isCode height finishes tt {M = machine source toks} depth 0 m (map (symbol source) w) (symbol source t) (map (symbol source) v) blank s (rw apart at e) as-many)
+
+      number : Numbered source w t (faultNumber (faultOf (t .code) asked))
+      unfolding start symbols follow
+      number = numbered source w t
+          (at-refusal language isCode height finishes tt {M = machine source toks} depth 0 m (map (symbol source) w) (symbol source t) (map (symbol source) v) blank s (rw apart at e) as-many)
+
+    refusal : before Eof (symbols source toks) < length toks → Earliest source toks (faultNumber (faultOf (code source toks (s .kept)) asked)) (here source toks (s .kept))
     refusal lt =
         let i : ℕ = s .kept .at in
         let t : Token = tokenAt source toks i in
@@ -73,24 +85,39 @@ module _ (source : List ℕ) (toks : List Token) where
         let below : i < length toks = omega (arith, counts, left lt) in
         let e₁ : w ++ (t ∷ v) ≡ toks = ap (λ (z : List Token). w ++ z) (sym (drop-cons toks i _ below)) ∙ take-append-drop i toks in
         let size : i + suc (length v) ≡ length toks = omega (arith, length-take-le i toks (omega arith), length-append w (t ∷ v), ap length e₁) in
-        record { before = w; token = t; after = v; split = sym e₁; misfit = misfit w v t e₁ (omega (arith, counts)); stands = refl }
+        record { before = w; token = t; after = v; split = sym e₁; misfit = misfit w v t e₁ (omega (arith, counts)); numbered = number w v t e₁ (omega (arith, counts)); stands = refl }
 
-  -- 14 is given at the start of the earliest token that does not fit (where Eof is among the tokens, so that there is one)
-  pub earliest : (place : ℕ) (w : Work) → before Eof (symbols source toks) < length toks → descent source toks ≡ Misfit place w → Earliest source toks place
+  -- 14, 15 and 16 are given at the start of the earliest token that does not fit (where Eof is among the tokens, so that there is one), by what it tells
+  pub earliest : (f : Fault) (place : ℕ) (w : Work) → before Eof (symbols source toks) < length toks → descent source toks ≡ Misfit f place w → Earliest source toks (faultNumber f) place
   unfolding descent
-  earliest place w lt e = from (descend pyhyeon depth Program 0 (start source toks)) refl e
+  earliest f place w lt e = from (descend pyhyeon depth Program 0 (start source toks)) refl e
     where
-      from : (x : Answer (machine source toks)) → descend pyhyeon depth Program 0 (start source toks) ≡ x → descended source toks x ≡ Misfit place w → Earliest source toks place
+      from : (x : Answer (machine source toks)) → descend pyhyeon depth Program 0 (start source toks) ≡ x → descended source toks x ≡ Misfit f place w → Earliest source toks (faultNumber f) place
       from (done n s) d e₁ = absurd (let z : _≡_ {A = ℕ} 0 1 = cc in omega arith)
-      from (no n s) d e₁ = let z : tokenAt source toks (s .kept .at) .start ≡ place = cc in subst (Earliest source toks) z (refusal n s d lt)
+      from (no asked n s) d e₁ =
+          let y : faultOf (code source toks (s .kept)) asked ≡ f = cc in
+          let z : here source toks (s .kept) ≡ place = cc in
+          rw (y, z) at (refusal n s d lt)
       from (deep n s) d e₁ = absurd (let z : _≡_ {A = ℕ} 0 1 = cc in omega arith)
       from stuck d e₁ = absurd (descent-answers source toks depth Program 0 (start source toks) d)
 
-  -- and at no other place
-  pub one-place : (p q : ℕ) → Earliest source toks p → Earliest source toks q → p ≡ q
-  one-place p q f g =
+  -- each of the three numbers excludes the others
+  one-number : {w : List Token} {t : Token} {i j : ℕ} → Numbered source w t i → Numbered source w t j → i ≡ j
+  one-number (cut e) (cut e₁) = refl
+  one-number (cut e) (missing m o) = absurd (rw e at m)
+  one-number (cut e) (wrong f g) = absurd (f e)
+  one-number (missing m o) (cut e) = absurd (rw e at m)
+  one-number (missing m o) (missing m₁ o₁) = refl
+  one-number (missing m o) (wrong f g) = absurd (g m o)
+  one-number (wrong f g) (cut e) = absurd (f e)
+  one-number (wrong f g) (missing m o) = absurd (g m o)
+  one-number (wrong f g) (wrong f₁ g₁) = refl
+
+  -- and at no other place, and with no other number
+  pub one-place : (i j p q : ℕ) → Earliest source toks i p → Earliest source toks j q → (i ≡ j) × (p ≡ q)
+  one-place i j p q f g =
       let e : f .before ++ (f .token ∷ f .after) ≡ g .before ++ (g .token ∷ g .after) = sym (f .split) ∙ g .split in
       let b : f .before ≡ g .before = one-misfit (Accepts source) (f .before) (g .before) (f .token) (g .token) (f .after) (g .after) (f .misfit) (g .misfit) e in
       let h : f .token ∷ f .after ≡ g .token ∷ g .after = append-cancel-left (g .before) (f .token ∷ f .after) (g .token ∷ g .after) (subst (λ (z : List Token). z ++ (f .token ∷ f .after) ≡ g .before ++ (g .token ∷ g .after)) b e) in
       let t : f .token ≡ g .token = cc in
-      f .stands ∙ ap (λ (z : Token). z .start) t ∙ sym (g .stands)
+      (one-number (rw (b, t) at (f .numbered)) (g .numbered), f .stands ∙ ap (λ (z : Token). z .start) t ∙ sym (g .stands))

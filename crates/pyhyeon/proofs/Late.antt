@@ -1,6 +1,6 @@
--- The test by which 14 is never too late passes, and what the law of grammars says of lists of symbols holds of lists of tokens.
+-- The test by which 14, 15 and 16 are never too late passes, and what the law of grammars says of lists of symbols holds of lists of tokens.
 -- Assumes nothing.
-use mathlib.Core.Path.{_≡_, refl, ap, _∙_}
+use mathlib.Core.Path.{_≡_, refl, ap}
 use mathlib.Core.Bool.{Bool, true, false, cond, _&&_}
 use mathlib.Core.List.{List, [], _∷_, _++_, map, map-append}
 use Prim.Native.Nat.{ℕ}
@@ -62,10 +62,10 @@ finishes U = tt
 finishes F = tt
 
 -- a token that has this symbol, at no place of its own
-abbrev tokenFor : ℕ → Token
+abbrev pub tokenFor : ℕ → Token
 tokenFor c = token c 0 0 Literal.None
 
-symbol-for : (source : List ℕ) (c : ℕ) → symbol source (tokenFor c) ≡ c
+pub symbol-for : (source : List ℕ) (c : ℕ) → symbol source (tokenFor c) ≡ c
 symbol-for source c = is (eqb c Identifier)
   where
     is : (b : Bool) → cond (b && false) Tee c ≡ c
@@ -77,13 +77,13 @@ symbols-for source [] = refl
 symbols-for source (c ∷ cs) = let e = symbol-for source c in let h = symbols-for source cs in cc
 
 -- and such tokens are tokens where the symbols are codes
-tokens-for : (cs : List ℕ) → T (every isCode cs) → T (every isToken (map tokenFor cs))
+pub tokens-for : (cs : List ℕ) → T (every isCode cs) → T (every isToken (map tokenFor cs))
 tokens-for [] h = tt
 tokens-for (c ∷ cs) h = and-i (isCode c) (every isToken (map tokenFor cs)) (and-l (isCode c) (every isCode cs) h) (tokens-for cs (and-r (isCode c) (every isCode cs) h))
 
 module _ (source : List ℕ) (toks : List Token) where
   -- these symbols are accepted, whatever the tokens were that the machine knows
-  abbrev AcceptsSymbols : List ℕ → Type 0
+  abbrev pub AcceptsSymbols : List ℕ → Type 0
   AcceptsSymbols l = fit.Accepts (machine source toks) plain Program blank l
 
   -- tokens are accepted where their symbols are
@@ -102,13 +102,19 @@ module _ (source : List ℕ) (toks : List Token) where
       from fail d e₁ = absurd (let z : _≡_ {A = ℕ} 0 1 = cc in omega arith)
       from out d e₁ = absurd (let z : _≡_ {A = ℕ} 0 1 = cc in omega arith)
 
+  -- tokens with more behind them, by the symbols of these
+  pub of-more : (w v : List Token) (cs : List ℕ) → AcceptsSymbols (map (symbol source) w ++ (map (symbol source) v ++ cs)) → Accepts source (w ++ (v ++ map tokenFor cs))
+  of-more w v cs a =
+      of-symbols (w ++ (v ++ map tokenFor cs)) (rw (map-append (symbol source) w (v ++ map tokenFor cs), map-append (symbol source) v (map tokenFor cs), symbols-for source cs) a)
+
+  pub to-more : (w v : List Token) → Accepts source (w ++ v) → AcceptsSymbols (map (symbol source) w ++ map (symbol source) v)
+  to-more w v a = rw (map-append (symbol source) w v) at (to-symbols (w ++ v) a)
+
   -- so the first symbol that does not fit is that of the first token that does not
   pub of-misfit : (w : List Token) (t : Token) → Misfit isCode AcceptsSymbols (map (symbol source) w) (symbol source t) → Misfit isToken (Accepts source) w t
-  of-misfit w t h =
-      let e : map (symbol source) (w ++ map tokenFor (h .rest)) ≡ map (symbol source) w ++ h .rest = map-append (symbol source) w (map tokenFor (h .rest)) ∙ cc (symbols-for source (h .rest)) in
-      record {
-        rest = map tokenFor (h .rest);
-        are = tokens-for (h .rest) (h .are);
-        fits = of-symbols (w ++ map tokenFor (h .rest)) (rw e (h .fits));
-        unfit = λ l a. h .unfit (map (symbol source) l) (rw (map-append (symbol source) w (t ∷ l)) at (to-symbols (w ++ (t ∷ l)) a));
-      }
+  of-misfit w t h = record {
+    rest = map tokenFor (h .rest);
+    are = tokens-for (h .rest) (h .are);
+    fits = of-more w [] (h .rest) (h .fits);
+    unfit = λ l a. h .unfit (map (symbol source) l) (to-more w (t ∷ l) a);
+  }

@@ -8,7 +8,9 @@ pub mod Held
 pub mod Sorts
 pub mod Starred
 pub mod Samples
+pub mod Cut
 pub mod Late
+pub mod Missing
 pub mod Earliest
 pub mod Symbols
 pub mod Floats

@@ -12,7 +12,7 @@ use Rattle.literal.specs.declared.Literal.the-variants as L
 use Rattle.token.specs.Code.{If, Elif, Else, While, For, In, Def, Return, And, Or, Not, Class, Break, Continue, Pass, Lambda, None, Bool, String, Identifier, Float}
 use Rattle.token.specs.Code.{Minus, SlashSlash, LessEqual, Equal, LParen, RParen, LBracket, RBracket, LBrace, RBrace, Colon, Comma, Semicolon, Dot, Indent, Dedent, Newline, Eof}
 use Rattle.grammar.specs.Trial.{andThen, orElse, orStay, seqP, altP, loop, manyP, skipP, okIf, takeFrom, takeP, seeP, actP, tailP, eval, rule, enough, parse}
-use Rattle.grammar.specs.Descent.{null, begins, thenD, sameD, seqD, byD, loopD, tailD, manyD, listD, walk, enter, ruleD, descend}
+use Rattle.grammar.specs.Descent.{null, begins, thenD, sameD, seqD, byD, orD, loopD, tailD, manyD, listD, walk, enter, ruleD, descend}
 use Rattle.tokens.specs.Token.{Token}
 use Rattle.ast.specs.Kind as kind
 use Rattle.ast.specs.Node.{Node, none, made, linked}
@@ -20,11 +20,12 @@ use Rattle.pyhyeon.specs.Symbol.{symbols}
 use Rattle.pyhyeon.specs.Action.{perform}
 use Rattle.pyhyeon.specs.Rules.{plain}
 use Rattle.pyhyeon.specs.Tables.{joined, first, opens}
+use Rattle.pyhyeon.specs.Missing.{Fault}
 use Rattle.pyhyeon.specs.Reading.{Accepted, Misfit, numberOf, placeOf, workOf, start, descent, trial}
 use Rattle.pyhyeon.specs.Starred.{tok, int, work, Comes}
 
 -- a name of one letter; a literal; a node that another follows in its list
-abbrev a : ℕ → Token
+abbrev pub a : ℕ → Token
 a at = tok Identifier at (at + 1)
 
 abbrev lit : ℕ → ℕ → ℕ → Literal → Token
@@ -40,7 +41,7 @@ record Samples : Type 0 where
   -- a blank line between an inline if and its else: 14 at the else
   blank : Comes (bytes "if a: b\n\nelse: c\n")
       (tok If 0 2 ∷ a 3 ∷ tok Colon 4 5 ∷ a 6 ∷ tok Newline 7 8 ∷ tok Newline 8 9 ∷ tok Else 9 13 ∷ tok Colon 13 14 ∷ a 15 ∷ tok Newline 16 17 ∷ tok Eof 17 17 ∷ [])
-      (Misfit 9 (work 10 20 (variable 3 ∷ variable 6 ∷ made kind.Expr 6 7 1 0 0 0 ∷ made kind.If 0 8 0 2 none none ∷ [])))
+      (Misfit Fault.wrong 9 (work 10 20 (variable 3 ∷ variable 6 ∷ made kind.Expr 6 7 1 0 0 0 ∷ made kind.If 0 8 0 2 none none ∷ [])))
   -- elif and else at once
   branches : Comes (bytes "if a: b\nelif c: d\nelse: e\n")
       (tok If 0 2 ∷ a 3 ∷ tok Colon 4 5 ∷ a 6 ∷ tok Newline 7 8 ∷ tok Elif 8 12 ∷ a 13 ∷ tok Colon 14 15 ∷ a 16 ∷ tok Newline 17 18 ∷ tok Else 18 22 ∷ tok Colon 22 23 ∷ a 24
@@ -94,7 +95,7 @@ record Samples : Type 0 where
       (Accepted (work 7 35 (made kind.Float 0 14 0 1073741824 1 4 ∷ made kind.Float 8 14 0 1073741824 9 13 ∷ made kind.Assign 0 14 0 1 0 0 ∷ made kind.Program 0 14 2 0 0 0 ∷ [])))
 
 samples : Samples
-unfolding andThen orElse orStay seqP altP loop manyP skipP okIf takeFrom takeP seeP actP tailP eval rule enough parse null begins thenD sameD seqD byD loopD tailD manyD listD walk enter ruleD descend symbols perform plain joined first opens start descent trial toBits ofInt
+unfolding andThen orElse orStay seqP altP loop manyP skipP okIf takeFrom takeP seeP actP tailP eval rule enough parse null begins thenD sameD seqD byD orD loopD tailD manyD listD walk enter ruleD descend symbols perform plain joined first opens start descent trial toBits ofInt
 samples = record {
   target = record { descends = refl; tries = refl; fields = tt };
   blank = record { descends = refl; tries = refl; fields = tt };
@@ -126,5 +127,5 @@ record Deep : Type 0 where
   uncounted : workOf (descent [] (nested 64)) .openings ≡ 515
 
 deep : Deep
-unfolding run nested okIf takeFrom takeP seeP actP skipP enough null begins thenD sameD seqD byD loopD tailD manyD listD walk enter ruleD descend symbols perform plain joined first opens start descent
+unfolding run nested okIf takeFrom takeP seeP actP skipP enough null begins thenD sameD seqD byD orD loopD tailD manyD listD walk enter ruleD descend symbols perform plain joined first opens start descent
 deep = record { fits = refl; openings = refl; refused = refl; place = refl; uncounted = refl }

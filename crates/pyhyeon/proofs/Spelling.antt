@@ -255,6 +255,6 @@ spellings source toks bs is w e = go (descend pyhyeon depth Program 0 (start sou
   where
     go : (x : Answer (machine source toks)) → descend pyhyeon depth Program 0 (start source toks) ≡ x → descended source toks x ≡ Accepted w → Spellings source toks (w .nodes)
     go (done n s) d f = let g : s .kept .nodes ≡ w .nodes = cc in subst (Spellings source toks) g (accepted source toks bs is n s d)
-    go (no n s) d f = let z : _≡_ {A = ℕ} 0 1 = cc in absurd (omega arith)
+    go (no asked n s) d f = let z : _≡_ {A = ℕ} 0 1 = cc in absurd (omega arith)
     go (deep n s) d f = let z : _≡_ {A = ℕ} 0 1 = cc in absurd (omega arith)
     go stuck d f = let z : _≡_ {A = ℕ} 0 1 = cc in absurd (omega arith)

@@ -4,7 +4,7 @@ use mathlib.Core.Path.{_≡_, refl}
 use mathlib.Core.List.{List, []}
 use Prim.Native.Nat.{ℕ}
 use Rattle.grammar.specs.Trial.{andThen, orElse, orStay, seqP, altP, loop, manyP, skipP, okIf, takeFrom, takeP, seeP, actP, tailP, eval, rule, enough, parse}
-use Rattle.grammar.specs.Descent.{null, begins, thenD, sameD, seqD, byD, loopD, tailD, manyD, listD, walk, enter, ruleD, descend}
+use Rattle.grammar.specs.Descent.{null, begins, thenD, sameD, seqD, byD, orD, loopD, tailD, manyD, listD, walk, enter, ruleD, descend}
 use Rattle.source.specs.Text.{bytes}
 use Rattle.lexer.proofs.Computed.{computed, is-list}
 use Rattle.tokens.specs.Token.{Token}
@@ -16,7 +16,7 @@ use Rattle.pyhyeon.specs.Reading.{Descended, start, descent, trial}
 use Rattle.pyhyeon.specs.Starred.{Starred, Printed, Comes}
 
 pub starred : Starred
-unfolding computed andThen orElse orStay seqP altP loop manyP skipP okIf takeFrom takeP seeP actP tailP eval rule enough parse null begins thenD sameD seqD byD loopD tailD manyD listD walk enter ruleD descend symbols perform plain joined first opens start descent trial
+unfolding computed andThen orElse orStay seqP altP loop manyP skipP okIf takeFrom takeP seeP actP tailP eval rule enough parse null begins thenD sameD seqD byD orD loopD tailD manyD listD walk enter ruleD descend symbols perform plain joined first opens start descent trial
 starred = record {
   nothing = record { scans = is-list []; comes = record { descends = refl; tries = refl; fields = tt } };
   signed = record { scans = is-list (bytes "a-1"); comes = record { descends = refl; tries = refl; fields = tt } };
@@ -35,5 +35,5 @@ starred = record {
 }
 
 pub printed : Printed
-unfolding computed andThen orElse orStay seqP altP loop manyP skipP okIf takeFrom takeP seeP actP tailP eval rule enough parse null begins thenD sameD seqD byD loopD tailD manyD listD walk enter ruleD descend symbols perform plain joined first opens start descent trial
+unfolding computed andThen orElse orStay seqP altP loop manyP skipP okIf takeFrom takeP seeP actP tailP eval rule enough parse null begins thenD sameD seqD byD orD loopD tailD manyD listD walk enter ruleD descend symbols perform plain joined first opens start descent trial
 printed = record { scans = is-list (bytes "a<b<c\n"); tokens = refl; openings = refl; accepts = refl; tries = refl; records = refl }

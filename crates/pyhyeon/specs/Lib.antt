@@ -4,6 +4,7 @@ pub mod Action
 pub mod Rules
 pub mod Tables
 pub mod Prices
+pub mod Missing
 pub mod Reading
 pub mod Sorts
 pub mod Starred

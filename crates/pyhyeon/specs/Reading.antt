@@ -14,6 +14,7 @@ use Rattle.pyhyeon.specs.Machine.{Kept, blank}
 use Rattle.pyhyeon.specs.Action.{tokenAt, machine}
 use Rattle.pyhyeon.specs.Rules.{Program, plain}
 use Rattle.pyhyeon.specs.Tables.{depth, pyhyeon}
+use Rattle.pyhyeon.specs.Missing.{Fault, wrong, faultNumber, faultOf}
 
 -- "T is the number of tokens without Eof"; the openings, and the nodes that are written.
 pub record Work : Type 0 where
@@ -21,27 +22,28 @@ pub record Work : Type 0 where
   pub openings : ℕ
   pub nodes : List Node
 
--- The descent accepts; or refuses with 13, at the start of the token that would open one E or Block too many; or with 14, at the start of the
+-- The descent accepts; or refuses with 13, at the start of the token that would open one E or Block too many; or with 14, 15 or 16, at the start of the
 -- token that does not fit. "Program hands back its openings and its nodes written, in a refusal as well."
 pub data Descended : Type 0 where
   Accepted : Work → Descended
-  TooDeep Misfit : ℕ → Work → Descended
+  TooDeep : ℕ → Work → Descended
+  Misfit : Fault → ℕ → Work → Descended
 
 -- "an answer holds number, place, T, N, text bytes, openings": number and place, and the work done
 abbrev pub numberOf : Descended → ℕ
 numberOf (Accepted w) = 0
 numberOf (TooDeep place w) = 13
-numberOf (Misfit place w) = 14
+numberOf (Misfit f place w) = faultNumber f
 
 abbrev pub placeOf : Descended → ℕ
 placeOf (Accepted w) = 0
 placeOf (TooDeep place w) = place
-placeOf (Misfit place w) = place
+placeOf (Misfit f place w) = place
 
 abbrev pub workOf : Descended → Work
 workOf (Accepted w) = w
 workOf (TooDeep place w) = w
-workOf (Misfit place w) = w
+workOf (Misfit f place w) = w
 
 -- "It accepts exactly when Program fits": with these nodes.
 pub data Tried : Type 0 where
@@ -56,16 +58,19 @@ module _ (source : List ℕ) (toks : List Token) where
   abbrev pub work : ℕ → Kept → Work
   work n k = record { tokens = before Eof (symbols source toks); openings = n; nodes = k .nodes }
 
-  -- where the token that stands next starts
+  -- where the token that stands next starts, and its code
   abbrev pub here : Kept → ℕ
   here k = tokenAt source toks (k .at) .start
+
+  abbrev pub code : Kept → ℕ
+  code k = tokenAt source toks (k .at) .code
 
   -- `stuck` never comes (proofs/Agreement.antt, `descent-answers`)
   abbrev pub descended : Answer (machine source toks) → Descended
   descended (done n s) = Accepted (work n (s .kept))
-  descended (no n s) = Misfit (here (s .kept)) (work n (s .kept))
+  descended (no asked n s) = Misfit (faultOf (code (s .kept)) asked) (here (s .kept)) (work n (s .kept))
   descended (deep n s) = TooDeep (here (s .kept)) (work n (s .kept))
-  descended stuck = Misfit 0 (work 0 blank)
+  descended stuck = Misfit wrong 0 (work 0 blank)
 
   unfoldable pub descent : Descended
   descent = descended (descend pyhyeon depth Program 0 start)
@@ -82,7 +87,7 @@ module _ (source : List ℕ) (toks : List Token) where
 -- 13 set aside, both accept, with the same nodes, or both refuse.
 pub data Agree : Tried → Descended → Type 0 where
   both-accept : (w : Work) → Agree (Fits (w .nodes)) (Accepted w)
-  both-refuse : (place : ℕ) (w : Work) → Agree Fails (Misfit place w)
+  both-refuse : (f : Fault) (place : ℕ) (w : Work) → Agree Fails (Misfit f place w)
   set-aside : (t : Tried) (place : ℕ) (w : Work) → Agree t (TooDeep place w)
 
 -- openings at most 10 T + 1, and nodes at most 2 T + 1

@@ -12,6 +12,7 @@ use Rattle.tokens.specs.Token.{Token}
 use Rattle.lexer.specs.Scan.{scanned, refused, tokenList}
 use Rattle.ast.specs.Kind as kind
 use Rattle.ast.specs.Node.{Node, none, made, words, allFit}
+use Rattle.pyhyeon.specs.Missing.{Fault}
 use Rattle.pyhyeon.specs.Reading.{Work, Descended, Accepted, TooDeep, Misfit, Tried, Fits, Fails, numberOf, workOf, descent, trial}
 
 -- a token that is no literal, from one place up to another; an Int
@@ -29,7 +30,7 @@ negative start end n = record { code = Int; start = start; end = end; literal = 
 abbrev pub trialOf : Descended → Tried
 trialOf (Accepted w) = Fits (w .nodes)
 trialOf (TooDeep place w) = Fails
-trialOf (Misfit place w) = Fails
+trialOf (Misfit f place w) = Fails
 
 -- The script with these tokens: the descent comes to d, and the trial to the same; and the nodes are as the table of fields says.
 pub record Comes (source : List ℕ) (toks : List Token) (d : Descended) : Type 0 where
@@ -51,15 +52,15 @@ pub record Starred : Type 0 where
   pub nothing : Reads [] (tok Eof 0 0 ∷ []) (Accepted (work 0 1 (made kind.Program 0 0 none 0 0 0 ∷ [])))
   -- *`a-1`: 14 at 1
   pub signed : Reads (bytes "a-1") (tok Identifier 0 1 ∷ negative 1 3 0 ∷ tok Eof 3 3 ∷ [])
-      (Misfit 1 (work 2 11 (made kind.Variable 0 1 0 1 0 0 ∷ made kind.Expr 0 1 0 0 0 0 ∷ [])))
+      (Misfit Fault.wrong 1 (work 2 11 (made kind.Variable 0 1 0 1 0 0 ∷ made kind.Expr 0 1 0 0 0 0 ∷ [])))
   -- *`-1.5`: 14 at 3
   pub float : Reads (bytes "-1.5") (negative 0 2 0 ∷ tok Dot 2 3 ∷ int 3 4 5 ∷ tok Eof 4 4 ∷ [])
-      (Misfit 3 (work 3 11 (made kind.Int 0 2 4294967295 4294967295 0 0 ∷ [])))
+      (Misfit Fault.wrong 3 (work 3 11 (made kind.Int 0 2 4294967295 4294967295 0 0 ∷ [])))
   -- *`1.e5`: Attribute
   pub attribute : Reads (bytes "1.e5") (int 0 1 1 ∷ tok Dot 1 2 ∷ tok Identifier 2 4 ∷ tok Eof 4 4 ∷ [])
       (Accepted (work 3 11 (made kind.Int 0 1 1 0 0 0 ∷ made kind.Attribute 0 4 0 2 4 0 ∷ made kind.Expr 0 4 1 0 0 0 ∷ made kind.Program 0 4 2 0 0 0 ∷ [])))
-  -- *`()`: 14 at 2
-  pub parens : Reads (bytes "()") (tok LParen 0 1 ∷ tok RParen 1 2 ∷ tok Eof 2 2 ∷ []) (Misfit 2 (work 2 11 []))
+  -- *`()`: 14 at 2; "so `()` answers the first of these at 2" (02, change 4)
+  pub parens : Reads (bytes "()") (tok LParen 0 1 ∷ tok RParen 1 2 ∷ tok Eof 2 2 ∷ []) (Misfit Fault.cut 2 (work 2 11 []))
   -- *`())`: Tuple
   pub tuple : Reads (bytes "())") (tok LParen 0 1 ∷ tok RParen 1 2 ∷ tok RParen 2 3 ∷ tok Eof 3 3 ∷ [])
       (Accepted (work 3 11 (made kind.Tuple 0 3 none 0 0 0 ∷ made kind.Expr 0 3 0 0 0 0 ∷ made kind.Program 0 3 1 0 0 0 ∷ [])))
@@ -73,7 +74,7 @@ pub record Starred : Type 0 where
   -- *`if a:`, line feed, `  b`: 14 at 9
   pub cut : Reads (bytes "if a:\n  b")
       (tok If 0 2 ∷ tok Identifier 3 4 ∷ tok Colon 4 5 ∷ tok Newline 5 6 ∷ tok Indent 6 8 ∷ tok Identifier 8 9 ∷ tok Dedent 9 9 ∷ tok Eof 9 9 ∷ [])
-      (Misfit 9 (work 7 21 (made kind.Variable 3 4 3 4 0 0 ∷ made kind.Variable 8 9 8 9 0 0 ∷ made kind.Expr 8 9 1 0 0 0 ∷ [])))
+      (Misfit Fault.wrong 9 (work 7 21 (made kind.Variable 3 4 3 4 0 0 ∷ made kind.Variable 8 9 8 9 0 0 ∷ made kind.Expr 8 9 1 0 0 0 ∷ [])))
   -- *with a last line feed: accepted
   pub whole : Reads (bytes "if a:\n  b\n")
       (tok If 0 2 ∷ tok Identifier 3 4 ∷ tok Colon 4 5 ∷ tok Newline 5 6 ∷ tok Indent 6 8 ∷ tok Identifier 8 9 ∷ tok Newline 9 10 ∷ tok Dedent 10 10 ∷ tok Eof 10 10 ∷ [])

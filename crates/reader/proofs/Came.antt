@@ -18,6 +18,7 @@ use Rattle.pyhyeon.specs.Action.{machine}
 use Rattle.pyhyeon.specs.Rules.{Program}
 use Rattle.pyhyeon.specs.Tables.{depth, pyhyeon}
 use Rattle.pyhyeon.specs.Prices.{prices}
+use Rattle.pyhyeon.specs.Missing.{faultOf}
 use Rattle.pyhyeon.specs.Reading.{Work, Descended, Accepted, TooDeep, Misfit, start, descended, descent}
 use Rattle.pyhyeon.proofs.Meter.{meter}
 use Rattle.pyhyeon.proofs.Held.{Fit, Held, keeps}
@@ -25,8 +26,8 @@ use Rattle.pyhyeon.proofs.Limits.{frugal}
 use Rattle.leaves.specs.declared.State.{State}
 use Rattle.leaves.specs.declared.Parsed.{Parsed}
 use Rattle.leaves.specs.declared.Parsed.the-variants.{Node, Refused}
-use Rattle.lookahead.specs.Tokens.{startAt, eofAt, tokensOf, Tokens}
-use Rattle.leaves.specs.Contract.{a-node, state, Told, told-node, told-no, told-deep, Rules}
+use Rattle.lookahead.specs.Tokens.{codeAt, startAt, eofAt, tokensOf, Tokens}
+use Rattle.leaves.specs.Contract.{a-node, state, askedNumber, Told, told-node, told-no, told-deep, Rules}
 use Rattle.lookahead.proofs.Tokens.{token-is}
 use Rattle.joint.proofs.Promised.{tokens-same}
 use Rattle.joint.proofs.Handed.{Handed}
@@ -42,7 +43,7 @@ workAt T s tr = record { tokens = T; openings = s .opened; nodes = nodesOf tr (s
 -- what the descent comes to, and Program's answer and tree: the place is where the state's token starts
 pub data Came (toks : List ℕ) (T : ℕ) : Descended → Parsed → List ℕ → Type 0 where
   came-node : (n : NodeNumber) (s : State) (tr : List ℕ) → 1 ≤ s .nodes → Came toks T (Accepted (workAt T s tr)) (Node n s) tr
-  came-no : (s : State) (tr : List ℕ) → s .at .0 ≤ T → Came toks T (Misfit (startAt toks (s .at .0)) (workAt T s tr)) (Refused 14 s) tr
+  came-no : (asked : List ℕ) (s : State) (tr : List ℕ) → s .at .0 ≤ T → Came toks T (Misfit (faultOf (codeAt toks (s .at .0)) asked) (startAt toks (s .at .0)) (workAt T s tr)) (Refused (askedNumber asked) s) tr
   came-deep : (s : State) (tr : List ℕ) → s .at .0 ≤ T → Came toks T (TooDeep (startAt toks (s .at .0)) (workAt T s tr)) (Refused 13 s) tr
 
 module _ {src toks : List ℕ} (w : Tokens src toks) where
@@ -63,7 +64,7 @@ module _ {src toks : List ℕ} (w : Tokens src toks) where
   told-came : {x : Answer (machine src (tokensOf src toks))} {a : Parsed} {tr : List ℕ} → Told src toks a-node [] x a tr → Ends Through Short x → Came toks (eofAt toks) (descended src (tokensOf src toks) x) a tr
   unfolding Through Short state Held Fit
   told-came (told-node n s tr u) (ends-done h) = rw (w .ends) (came-node n s tr (omega (arith, h .0, length-nodes tr (s .nodes))))
-  told-came (told-no s tr ws u) (ends-no h) = rw (w .ends, ap (λ (t : Token). t .start) (token-is src toks (s .at .0) h)) (came-no s tr h)
+  told-came (told-no asked s tr ws u) (ends-no h) = rw (w .ends, ap (λ (t : Token). t .start) (token-is src toks (s .at .0) h), ap (λ (t : Token). t .code) (token-is src toks (s .at .0) h)) (came-no asked s tr h)
   told-came (told-deep s tr ws u) (ends-deep h) = rw (w .ends, ap (λ (t : Token). t .start) (token-is src toks (s .at .0) h)) (came-deep s tr h)
 
   came : {tr tr′ : List ℕ} {a : Parsed} → Rules src toks depth Program a-node begin tr a tr′ → Came toks (eofAt toks) (descent src (tokensOf src toks)) a tr′

@@ -1,12 +1,12 @@
--- What follows of every outcome: its counts are the descent's and within the limits, it agrees with the trial, 14 stands at the earliest misfit, Floats keep
+-- What follows of every outcome: its counts are the descent's and within the limits, it agrees with the trial, 14, 15 and 16 stand at the earliest misfit, Floats keep
 -- their spelling, and none is 12.
 -- Assumes nothing.
 use mathlib.Core.Path.{_≡_, refl, sym, ap, _∙_, subst}
 use mathlib.Core.Bool.{Bool, true, false, cond, _&&_}
-use mathlib.Core.List.{List}
-use Prim.Native.Nat.{ℕ, _+_, _*_, _≤_}
+use mathlib.Core.List.{List, []}
+use Prim.Native.Nat.{ℕ, _+_, _*_, _≤_, _<_}
 use native.Mathlib.Omega.{arith}
-use lib.Dec.{eqb, ltb, leb}
+use lib.Dec.{eqb, ltb, leb, leb→le}
 use lib.ListN.{length, take, drop}
 use borrow.Author.Tests.{le-leb}
 use Rattle.areas.specs.Area.{tokenArea}
@@ -26,16 +26,17 @@ use Rattle.pyhyeon.specs.Symbol.{symbols}
 use Rattle.pyhyeon.specs.Action.{machine}
 use Rattle.pyhyeon.specs.Rules.{Program}
 use Rattle.pyhyeon.specs.Tables.{depth, pyhyeon}
+use Rattle.pyhyeon.specs.Missing.{Fault, faultNumber}
 use Rattle.pyhyeon.specs.Reading.{Descended, Accepted, TooDeep, Misfit, Tried, Fits, Fails, Limited, workOf, start, descended, descent, trial}
 use Rattle.pyhyeon.proofs.Agreement as agreement
 use Rattle.pyhyeon.proofs.Limits.{limits}
 use Rattle.pyhyeon.proofs.Spelling as floats
 use Rattle.joint.proofs.Promised.{tokens-counted, script-earliest}
 use Rattle.reader.specs.Answer.{numbersOf, written}
-use Rattle.reader.specs.Outcome.{Area, Outcome, treeArea, records, after, untouched, ofDescent, ofScan, ofUtf8, outcome}
+use Rattle.reader.specs.Outcome.{Area, holds, Outcome, treeArea, records, after, untouched, ofDescent, ofScan, ofUtf8, outcome}
 use Rattle.reader.specs.Reads.{refusedBy, nothing, countsOf, countsIn, descentCounts, trialOf, accepts, nodesIn, EarliestOf, SpellingsOf, Alike, Reads}
 use Rattle.reader.specs.declared.Answer.{Answer}
-use Rattle.reader.specs.declared.Answer.the-variants.{No}
+use Rattle.reader.specs.declared.Answer.the-variants.{No, Stopped}
 use Rattle.reader.proofs.Filled.{nodes-are, area-front, area-records, length-records}
 
 -- the fields of `Reads` that follow, for an answer and the areas of text and tree, where the token list is x
@@ -50,13 +51,14 @@ record Follows (src : List ℕ) (x : Scan) (r : Answer) (text tree : Area) : Typ
   count : numbersOf r .number ≡ 0 → numbersOf r .nodes ≡ length (nodesIn (trialOf src x))
   words : numbersOf r .number ≡ 0 → (tree₀ : List ℕ) → take (8 * numbersOf r .nodes) (drop 8 (after tree (treeArea (length src)) tree₀)) ≡ records (nodesIn (trialOf src x))
   decoded : numbersOf r .number ≡ 0 → (text₀ : List ℕ) → take (numbersOf r .text) (after text (length src) text₀) ≡ textBytes x
-  earliest : numbersOf r .number ≡ 14 → EarliestOf src x (numbersOf r .place)
+  earliest : leb 14 (numbersOf r .number) ≡ true → EarliestOf src x (numbersOf r .number) (numbersOf r .place)
   spellings : numbersOf r .number ≡ 0 → SpellingsOf src x (nodesIn (trialOf src x))
   never-12 : numbersOf r .number ≡ 12 → ⊥
 
 -- a refusal before the descent
 early : (src : List ℕ) (x : Scan) (number place : ℕ) (text tree : Area) → 1 ≤ number → number ≤ 11 → Follows src x (No number place) text tree
 early src x number place text tree least most =
+    let late-is : leb 14 number ≡ true → ⊥ = λ e. omega (arith, leb→le 14 number (rw e tt)) in
     let a : leb 1 number ≡ true = le-leb 1 number least in
     let b : leb number 11 ≡ true = le-leb number 11 most in
     let c : leb number 13 ≡ true = le-leb number 13 (omega arith) in
@@ -71,7 +73,7 @@ early src x number place text tree least most =
       count = λ e. absurd (omega arith);
       words = λ e. absurd (omega arith);
       decoded = λ e. absurd (omega arith);
-      earliest = λ e. absurd (omega arith);
+      earliest = λ e. absurd (late-is e);
       spellings = λ e. absurd (omega arith);
       never-12 = λ e. omega arith;
     }
@@ -86,7 +88,7 @@ module _ (src : List ℕ) (ts : List Token) (bs : List ℕ) (is : tokenList src 
 
       go : (x : Descent.Answer (machine src ts)) → workOf (descended src ts x) .tokens ≤ length src
       go (Descent.done n s) = T
-      go (Descent.no n s) = T
+      go (Descent.no asked n s) = T
       go (Descent.deep n s) = T
       go Descent.stuck = T
 
@@ -116,7 +118,7 @@ module _ (src : List ℕ) (ts : List Token) (bs : List ℕ) (is : tokenList src 
             area-records (treeArea (length src)) (length src) (w .tokens) (length bs) (length (w .nodes)) (w .openings) (records (w .nodes)) tree₀ (length-records (w .nodes))
             ∙ ap (λ (x : Tried). records (nodesIn x)) (sym t);
         decoded = λ _ text₀. area-front (length src) (length bs) bs text₀ refl;
-        earliest = λ f. absurd (omega arith);
+        earliest = λ f. let z : _≡_ {A = ℕ} 0 1 = cc in absurd (omega arith);
         spellings = λ _. rw t (floats.spellings src ts bs is w e);
         never-12 = λ f. omega arith;
       }
@@ -133,28 +135,37 @@ module _ (src : List ℕ) (ts : List Token) (bs : List ℕ) (is : tokenList src 
         count = λ f. absurd (omega arith);
         words = λ f. absurd (omega arith);
         decoded = λ f. absurd (omega arith);
-        earliest = λ f. absurd (omega arith);
+        earliest = λ f. let z : _≡_ {A = ℕ} 0 1 = cc in absurd (omega arith);
         spellings = λ f. absurd (omega arith);
         never-12 = λ f. omega arith;
       }
-  late (Misfit place w) e =
-      let t : trial src ts ≡ Fails = agreement.refuses src ts place w e in
-      let l = common (Misfit place w) e in
-      record {
-        counts = l .same;
-        shown = λ _. (refl, refl);
-        few-openings = l .limited .openings;
-        few-nodes = l .limited .nodes;
-        few-tokens = l .short;
-        few-bytes = omega arith;
-        exactly = λ _. ap accepts t;
-        count = λ f. absurd (omega arith);
-        words = λ f. absurd (omega arith);
-        decoded = λ f. absurd (omega arith);
-        earliest = λ _. script-earliest src ts bs is place w e;
-        spellings = λ f. absurd (omega arith);
-        never-12 = λ f. omega arith;
-      }
+  late (Misfit f place w) e = by-fault f e
+    where
+      unfit : (f : Fault) → descent src ts ≡ Misfit f place w → refusedBy 11 (faultNumber f) ≡ false → eqb (faultNumber f) 0 ≡ false → 12 < faultNumber f →
+          Follows src (scanned ts bs) (Stopped (faultNumber f) place (w .tokens) (length (w .nodes)) (w .openings)) (holds []) (holds [])
+      unfit f e a z few =
+          let t : trial src ts ≡ Fails = agreement.refuses src ts f place w e in
+          let l = common (Misfit f place w) e in
+          record {
+            counts = rw a (l .same);
+            shown = λ _. (refl, refl);
+            few-openings = l .limited .openings;
+            few-nodes = l .limited .nodes;
+            few-tokens = l .short;
+            few-bytes = omega arith;
+            exactly = λ _. rw z (ap accepts t);
+            count = λ k. absurd (omega arith);
+            words = λ k. absurd (omega arith);
+            decoded = λ k. absurd (omega arith);
+            earliest = λ _. script-earliest src ts bs is f place w e;
+            spellings = λ k. absurd (omega arith);
+            never-12 = λ k. omega arith;
+          }
+
+      by-fault : (f : Fault) → descent src ts ≡ Misfit f place w → Follows src (scanned ts bs) (Stopped (faultNumber f) place (w .tokens) (length (w .nodes)) (w .openings)) (holds []) (holds [])
+      by-fault Fault.wrong e = unfit Fault.wrong e refl refl (omega arith)
+      by-fault Fault.cut e = unfit Fault.cut e refl refl (omega arith)
+      by-fault Fault.missing e = unfit Fault.missing e refl refl (omega arith)
 
 abbrev Of : List ℕ → Outcome → Type 0
 Of src o = Follows src (tokenList src) (o .answer) (o .text) (o .tree)

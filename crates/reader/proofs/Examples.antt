@@ -32,8 +32,8 @@ empty-tree : after (outcome [] 3 0 18 .tree) 16 (9 ∷ 9 ∷ 9 ∷ 9 ∷ 9 ∷ 9
 unfolding outcome utf8Error firstIllFormed area
 empty-tree = ap (λ (o : Outcome). after (o .tree) 16 (9 ∷ 9 ∷ 9 ∷ 9 ∷ 9 ∷ 9 ∷ 9 ∷ 9 ∷ 9 ∷ 9 ∷ 9 ∷ 9 ∷ 9 ∷ 9 ∷ 9 ∷ 9 ∷ 5 ∷ 6 ∷ [])) (reads [] (starred .nothing))
 
--- "*`()`: 14 at 2": T and openings are given
-parens : numbersOf (outcome (bytes "()") 9 2 48 .answer) ≡ record { number = 14; place = 2; tokens = 2; nodes = 0; text = 0; openings = 11 }
+-- "so `()` answers the first of these at 2" (02, change 4): T and openings are given
+parens : numbersOf (outcome (bytes "()") 9 2 48 .answer) ≡ record { number = 15; place = 2; tokens = 2; nodes = 0; text = 0; openings = 11 }
 unfolding outcome utf8Error firstIllFormed sequenceLength rows
 parens = ap (λ (o : Outcome). numbersOf (o .answer)) (reads (bytes "()") (starred .parens))
 

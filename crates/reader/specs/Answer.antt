@@ -13,7 +13,7 @@ pub record Numbers : Type 0 where
   pub text : ℕ
   pub openings : ℕ
 
--- "acceptance has number 0 and place 0"; "Counts are 0, but 13 and 14 give T and openings"
+-- "acceptance has number 0 and place 0"; "Counts are 0, but 13 and 14 give T and openings"; 15 and 16 "with T and openings as there" (02, change 4)
 abbrev pub numbersOf : Answer → Numbers
 numbersOf (Tree t n x o) = record { number = 0; place = 0; tokens = t; nodes = n; text = x; openings = o }
 numbersOf (No k p) = record { number = k; place = p; tokens = 0; nodes = 0; text = 0; openings = 0 }

@@ -14,6 +14,7 @@ use Rattle.lexer.specs.Scan.{Scan, scanned, refused, tokenList}
 use Rattle.lexer.specs.Words.{words}
 use Rattle.ast.specs.Node.{Node}
 use Rattle.ast.specs.Node as node
+use Rattle.pyhyeon.specs.Missing.{faultNumber}
 use Rattle.pyhyeon.specs.Reading.{Work, Descended, Accepted, TooDeep, Misfit, descent}
 use Rattle.reader.specs.declared.Answer.{Answer}
 use Rattle.reader.specs.declared.Answer.the-variants.{Tree, No, Stopped}
@@ -56,7 +57,7 @@ pub record Outcome : Type 0 where
 abbrev pub untouched : ℕ → ℕ → Outcome
 untouched number place = record { answer = No number place; tokens = kept; text = kept; tree = kept }
 
--- "6 to 14 zero the areas"
+-- "6 to 14 zero the areas", and 15 and 16 as 14 does
 abbrev pub cleared : Answer → Outcome
 cleared a = record { answer = a; tokens = holds []; text = holds []; tree = holds [] }
 
@@ -73,11 +74,12 @@ accepted n ts bs w = record {
 abbrev pub stopped : ℕ → ℕ → Work → Outcome
 stopped number place w = cleared (Stopped number place (w .tokens) (length (w .nodes)) (w .openings))
 
--- "Then the earliest token: 13 at most 64 E and Block open at once? 14 does it fit the grammar?"
+-- "Then the earliest token: 13 at most 64 E and Block open at once? 14 does it fit the grammar?"; "The new numbers are 15 for the end and 16 for the missing
+-- expression, both at the place of question 14, with T and openings as there" (02, change 4)
 abbrev pub ofDescent : ℕ → List Token → List ℕ → Descended → Outcome
 ofDescent n ts bs (Accepted w) = accepted n ts bs w
 ofDescent n ts bs (TooDeep place w) = stopped 13 place w
-ofDescent n ts bs (Misfit place w) = stopped 14 place w
+ofDescent n ts bs (Misfit f place w) = stopped (faultNumber f) place w
 
 -- "Then the earliest in the source": 6 to 11
 abbrev pub ofScan : List ℕ → Scan → Outcome

@@ -57,10 +57,10 @@ abbrev pub nodesIn : Tried → List Node
 nodesIn (Fits ns) = ns
 nodesIn Fails = []
 
--- the place is the start of the earliest token of the token list that does not fit, by the trial alone
-abbrev pub EarliestOf : List ℕ → Scan → ℕ → Type 0
-EarliestOf src (scanned ts bs) place = Earliest src ts place
-EarliestOf src (refused number at) place = ⊥
+-- the place is the start of the earliest token of the token list that does not fit, and the number is that token's, by the trial alone
+abbrev pub EarliestOf : List ℕ → Scan → ℕ → ℕ → Type 0
+EarliestOf src (scanned ts bs) number place = Earliest src ts number place
+EarliestOf src (refused by at) number place = ⊥
 
 -- these nodes have the Floats of the token list, each with its spelling
 abbrev pub SpellingsOf : List ℕ → Scan → List Node → Type 0
@@ -84,7 +84,7 @@ pub record Reads (src : List ℕ) (r : Answer) (tokens₀ text₀ tree₀ tokens
   pub tree-is : tree ≡ after (outcome src (length tokens₀) (length text₀) (length tree₀) .tree) (treeArea (length src)) tree₀
   -- "An answer holds number, place, T, N, text bytes, openings"
   pub numbers : numbersOf r ≡ numbersOf (outcome src (length tokens₀) (length text₀) (length tree₀) .answer)
-  -- "Counts are 0, but 13 and 14 give T and openings": a refusal shows 0 for N and for the bytes of text
+  -- "Counts are 0, but 13 and 14 give T and openings", 15 and 16 as 14: a refusal shows 0 for N and for the bytes of text
   pub shown : eqb (numbersOf r .number) 0 ≡ false → (numbersOf r .nodes ≡ 0) × (numbersOf r .text ≡ 0)
   -- "Program hands back its openings and its nodes written, in a refusal as well": T, openings and nodes written are the descent's. "Where a question
   -- before 13 says no, the descent doesn't begin, and T and both counts are 0": these are 1 to 11, since 12 never says it
@@ -94,12 +94,13 @@ pub record Reads (src : List ℕ) (r : Answer) (tokens₀ text₀ tree₀ tokens
   pub few-nodes : written r ≤ 2 * numbersOf r .tokens + 1
   pub few-tokens : numbersOf r .tokens ≤ length src
   pub few-bytes : numbersOf r .text ≤ length src
-  -- refusals 1 to 13 set aside, accepted exactly when the ordered trial of the token list accepts
+  -- refusals 1 to 13 set aside, accepted exactly when the ordered trial of the token list accepts; so 14, 15 and 16 are all refusals of the trial
   pub exactly : refusedBy 13 (numbersOf r .number) ≡ false → accepts (trialOf src (tokenList src)) ≡ eqb (numbersOf r .number) 0
   -- an accepted tree is the trial's in N, every word of the N records and the text
   pub alike : numbersOf r .number ≡ 0 → Alike src (numbersOf r .nodes) (numbersOf r .text) text tree
-  -- "Then the earliest token: .. 14 does it fit the grammar? (its start; Eof is n)"
-  pub earliest : numbersOf r .number ≡ 14 → EarliestOf src (tokenList src) (numbersOf r .place)
+  -- "Then the earliest token: .. 14 does it fit the grammar? (its start; Eof is n)"; "The new numbers are 15 for the end and 16 for the missing expression, both
+  -- at the place of question 14" (02, change 4)
+  pub earliest : leb 14 (numbersOf r .number) ≡ true → EarliestOf src (tokenList src) (numbersOf r .number) (numbersOf r .place)
   -- "A Float record carries in r and s the start and end of its token" (02, change 3): so it is in the tree's words, in order and of all Floats, and p and q are the
   -- value of the bytes there
   pub spellings : numbersOf r .number ≡ 0 → SpellingsOf src (tokenList src) (nodesOf tree (numbersOf r .nodes))

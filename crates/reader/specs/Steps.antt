@@ -2,8 +2,12 @@
 -- Assumes nothing.
 use Prim.Native.Nat.{ℕ, _+_, _-_, _*_, _≤_}
 use mathlib.Core.Path.{_≡_}
-use mathlib.Core.List.{List, _++_}
+use mathlib.Core.Bool.{cond}
+use mathlib.Core.List.{List, [], _∷_, _++_}
+use lib.Dec.{eqb}
 use lib.ListN.{length, replicate}
+use Rattle.grammar.specs.Sets.{mem}
+use Rattle.token.specs.Code.{Newline, Dedent, Eof}
 use Rattle.areas.specs.Area.{tokenArea}
 use Rattle.lexer.specs.Scan.{tokenList}
 use Rattle.lexer.specs.Words.{answerOf, wordsOf, textBytes}
@@ -28,6 +32,10 @@ pub record Held (src : List ℕ) (count used : ℕ) (tokens text : List ℕ) : T
   pub answer : S.Tokens count used ≡ answerOf (tokenList src)
   pub tokens-are : tokens ≡ padded (tokenArea (length src)) (wordsOf (tokenList src))
   pub text-is : text ≡ padded (length src) (textBytes (tokenList src))
+
+-- the number of a refusal that the tree reader hands on by 13 or by what was asked for, at a token of this code
+abbrev pub stoppedBy : ℕ → ℕ → ℕ
+stoppedBy asked code = cond (eqb asked 13) 13 (cond (eqb code Eof) 15 (cond (mem code (Newline ∷ Dedent ∷ [])) asked 14))
 
 -- the counts of an accepted source of n bytes
 pub record Counted (n tokens text nodes openings : ℕ) : Type 0 where

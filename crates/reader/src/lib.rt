@@ -1,4 +1,5 @@
-// The reader of a source (src/lib.rs, `parse_source`): the questions 1 to 14 in their order, 12 no more among them, of which the first no decides, over a source and three lent slices.
+// The reader of a source (src/lib.rs, `parse_source`): the questions 1 to 14 in their order, 12 no more among them, of which the first no decides, over a source
+// and three lent slices. The last of them has three numbers, 14 to 16 (02, change 4).
 //
 // The areas are the fronts of the slices: for a source of n bytes 3(n+1) words of tokens, n bytes of text and 16n+16 words of tree. `parse_source` lends
 // the areas alone to what works in them, so what lies beyond stays. Nothing is cleared before the work: each word of an area is written by it, or is
@@ -11,7 +12,7 @@ ghost use Rattle.lexer.specs.Scan.{tokenList};
 ghost use Rattle.reader.specs.declared.Answer.the-variants as answer;
 ghost use Rattle.reader.specs.Outcome.{header, ofScan, treeArea};
 ghost use Rattle.reader.specs.Reads.{Reads};
-ghost use Rattle.reader.specs.Steps.{Exact, Fills, Counted, Held, padded};
+ghost use Rattle.reader.specs.Steps.{Exact, Fills, Counted, Held, padded, stoppedBy};
 use leaves::Parsed;
 use lexer::Scanned;
 use utf8::Utf8;
@@ -36,7 +37,7 @@ pub enum Answer {
         number: u32,
         place: usize,
     },
-    // Refused by 13 or 14, with T, the nodes written and the rules opened till then.
+    // Refused by 13 to 16, with T, the nodes written and the rules opened till then.
     Stopped {
         number: u32,
         place: usize,
@@ -101,6 +102,22 @@ fn clear(tokens: &mut [u32], text: &mut [u8], tree: &mut [u32])
     areas::zero_words(tree, 0, end);
 }
 
+// The number of a refusal at a token of this code, by 13 or by what was asked for there: the end is 15, a Newline or Dedent has what was asked for, and all else
+// is 14.
+fn stopped_by(asked: u32, code: u32) -> u32
+    ensures { λ r. ⌜ r ≡ stoppedBy asked code ⌝ }
+{
+    if asked == 13 {
+        return 13;
+    }
+    match code {
+        token::EOF => 15,
+        token::NEWLINE => asked,
+        token::DEDENT => asked,
+        _ => 14,
+    }
+}
+
 // Questions 13 and 14: the tree of the tokens that the scanner counted.
 fn read_tokens(
     src: &[u8],
@@ -124,11 +141,12 @@ fn read_tokens(
             s.opened as usize,
             tree,
         ),
-        Parsed::Refused(number, s) => {
+        Parsed::Refused(asked, s) => {
+            let code = lookahead::code_at(&tokens[..end], s.at);
             let place = lookahead::start_at(&tokens[..end], s.at);
             clear(tokens, text, tree);
             Answer::Stopped {
-                number,
+                number: stopped_by(asked, code),
                 place: place.0 as usize,
                 tokens: count,
                 nodes: s.nodes as usize,

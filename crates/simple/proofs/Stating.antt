@@ -20,8 +20,9 @@ use Rattle.leaves.specs.declared.Parsed.{Parsed}
 use Rattle.leaves.specs.declared.Parsed.the-variants.{Node, Refused}
 use Rattle.lookahead.specs.Tokens.{eofAt, textBefore, symbolAt}
 use Rattle.leaves.specs.Contract.{past, a-node, Comes, Parts, Ready, Spot, Writes}
-use Rattle.lookahead.proofs.Tests.{not-first}
-use Rattle.joint.proofs.Chain.{raised, tok-then, part-then, part-stop, or-first, or-next}
+use Rattle.lookahead.proofs.Tests.{among-first, not-first}
+use Rattle.joint.proofs.Chain.{raised, tok-then, part-then, part-stop}
+use Rattle.joint.proofs.Choices.{absent, starts, or-first, or-next}
 use Rattle.joint.proofs.Counts.{Came, came-fresh, came-node}
 use Rattle.joint.proofs.Ends.{act-wrote, tok-mark}
 use Rattle.joint.proofs.Loops.{ready-of}
@@ -47,7 +48,7 @@ module _ {src toks : List ℕ} {room : ℕ} {s : State} {tr : List ℕ} {vs : Li
       Comes src toks room (behind r) a-node vs (node (n .0) ∷ hand r ++ vs) s tr (Node (made .0) (made .1)) tr′
   unfolding begins null
   behind-ends (role.Return k) f u w = act-wrote u w
-  behind-ends role.First f u w = or-next h f (act-wrote u w)
+  behind-ends role.First f u w = or-next h f (absent refl) (act-wrote u w)
   behind-ends (role.Value m) f u w = act-wrote u w
 
   behind-turns : (r : Role) {a : Parsed} {t : List ℕ} → targets src toks (s .at .0) r ≡ true → Comes src toks room (stated (role.Value n)) a-node vs (node (n .0) ∷ vs) (past s) tr a t →
@@ -141,7 +142,7 @@ module _ {src toks : List ℕ} {s : State} {tr : List ℕ} (w : Ready src toks t
   opening-first f e = record {
     ready = ready-of (w .tokens) (omega (arith, w .room), w .here, w .nodes, omega (arith, w .opened), w .used);
     placed = placed-first _;
-    same = λ vs c. or-next (w .here) f (or-first (w .here) e c);
+    same = λ vs c. or-next (w .here) f (starts (among-first firstE (code.Break ∷ code.Continue ∷ code.Pass ∷ []) (symbolAt src toks (s .at .0)) e)) (or-first (w .here) e c);
   }
 
   -- the same by the tests: the token's symbol k can begin a Simple, and is none of Return, Break, Continue and Pass

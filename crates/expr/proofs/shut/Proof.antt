@@ -1,6 +1,7 @@
 -- `expr::shut` meets its contract: the bracket that ends a list.
 -- Assumes nothing.
 use Rattle.joint.proofs.Taken.{ready-tested, taken-wrote}
+use Rattle.leaves.proofs.Asked.{one-asked}
 use Rattle.joint.proofs.Chain.{tok-not}
 use Rattle.lookahead.proofs.Tests.{learnt}
 use mathlib.Core.List.{[], _∷_}
@@ -43,7 +44,7 @@ returns-2 c =
     let at-start = c .before .before .before .before .before .before .before in
     let r = at-start .pre .0 in
     let e = learnt (at-start .args .close ∷ []) (c .if1 .left) (c .before .is-symbol .ensures) (c .before .before .symbol-at .ensures) in
-    λ room. record { comes = λ vs. tok-not (r .here) (r .used) e }
+    λ room. record { comes = λ vs. tok-not (r .here) (r .used) e (one-asked (at-start .args .close)) }
 
 pub shut-spec : {M : Type 1} → statement M
 shut-spec =

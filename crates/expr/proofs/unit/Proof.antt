@@ -45,7 +45,7 @@ returns-2 c =
     let at-start = c .before .before .before .before .before .before .before in
     let r = at-start .pre .0 in
     let e = learnt (code.RParen ∷ []) (c .if1 .left) (c .before .is-symbol .ensures) (c .before .before .symbol-at .ensures) in
-    λ room. record { comes = λ vs. tok-not (r .here) (r .used) e }
+    λ room. record { comes = λ vs. tok-not (r .here) (r .used) e refl }
 
 pub unit-spec : {M : Type 1} → statement M
 unit-spec =

@@ -59,40 +59,63 @@ finish-requires c κs =
     let h = hands p in
     (at-program .program .kept .1 .1 .0 ∙ at-start .pre .1, counts p h (told (at-s .s .given .1) (descends h (at-program .program .ensures))))
 
-enum-known-number : tie.Need-enum-known-number
-enum-known-number c = search needs
+enum-known-asked : tie.Need-enum-known-asked
+enum-known-asked c = search needs
+
+slice-reshare-prefix-code-at : tie.Need-slice-reshare-prefix-code-at
+slice-reshare-prefix-code-at c =
+    let at-start = c .before .before .before .before .before .before .before .before .before .before .before .before in
+    let h = hands (at-start .pre .0) in
+    omega (arith, h .few, held-tokens (at-start .pre .0))
+
+slice-aggregate-code-at : tie.Need-slice-aggregate-code-at
+slice-aggregate-code-at c =
+    let at-start = c .before .before .before .before .before .before .before .before .before .before .before .before .before in
+    let h = hands (at-start .pre .0) in
+    sym (length-take-le (3 * (at-start .args .count + 1)) (now (at-start .args .tokens)) (omega (arith, h .few, held-tokens (at-start .pre .0))))
+
+code-at-requires : tie.Need-code-at-requires
+code-at-requires c κs =
+    let at-asked = c .before .before in
+    let at-program = at-asked .before .before .before .before in
+    let at-start = at-program .before .before .before .before .before .before .before in
+    let h = hands (at-start .pre .0) in
+    omega (arith, stop-here (told (at-asked .asked .given .1) (descends h (at-program .program .ensures))), length-take-le (3 * (at-start .args .count + 1)) (now (at-start .args .tokens)) (omega (arith, h .few, held-tokens (at-start .pre .0))))
 
 slice-reshare-prefix-start-at : tie.Need-slice-reshare-prefix-start-at
 slice-reshare-prefix-start-at c =
-    let at-start = c .before .before .before .before .before .before .before .before .before .before .before .before in
+    let at-start = c .before .before .before .before .before .before .before .before .before .before .before .before .before .before in
     let h = hands (at-start .pre .0) in
     omega (arith, h .few, held-tokens (at-start .pre .0))
 
 slice-aggregate-start-at : tie.Need-slice-aggregate-start-at
 slice-aggregate-start-at c =
-    let at-start = c .before .before .before .before .before .before .before .before .before .before .before .before .before in
+    let at-start = c .before .before .before .before .before .before .before .before .before .before .before .before .before .before .before in
     let h = hands (at-start .pre .0) in
     sym (length-take-le (3 * (at-start .args .count + 1)) (now (at-start .args .tokens)) (omega (arith, h .few, held-tokens (at-start .pre .0))))
 
 start-at-requires : tie.Need-start-at-requires
 start-at-requires c κs =
-    let at-number = c .before .before in
-    let at-program = at-number .before .before .before .before in
+    let at-asked = c .before .before .before .before in
+    let at-program = at-asked .before .before .before .before in
     let at-start = at-program .before .before .before .before .before .before .before in
     let h = hands (at-start .pre .0) in
-    omega (arith, stop-here (told (at-number .number .given .1) (descends h (at-program .program .ensures))), length-take-le (3 * (at-start .args .count + 1)) (now (at-start .args .tokens)) (omega (arith, h .few, held-tokens (at-start .pre .0))))
+    omega (arith, stop-here (told (at-asked .asked .given .1) (descends h (at-program .program .ensures))), length-take-le (3 * (at-start .args .count + 1)) (now (at-start .args .tokens)) (omega (arith, h .few, held-tokens (at-start .pre .0))))
 
 clear-requires : tie.Need-clear-requires
 clear-requires c κs = search needs
 
-cast-t33 : tie.Need-cast-t33
-cast-t33 c = search needs
+stopped-by-requires : tie.Need-stopped-by-requires
+stopped-by-requires c κs = search needs
 
-cast-t34 : tie.Need-cast-t34
-cast-t34 c = search needs
+cast-t37 : tie.Need-cast-t37
+cast-t37 c = search needs
 
-cast-t35 : tie.Need-cast-t35
-cast-t35 c = search needs
+cast-t38 : tie.Need-cast-t38
+cast-t38 c = search needs
+
+cast-t39 : tie.Need-cast-t39
+cast-t39 c = search needs
 
 same-length : tie.Need-same-length
 same-length c = search needs
@@ -121,15 +144,17 @@ same-length-5 c = search needs
 
 returns-2 : tie.Need-returns-2
 returns-2 c =
-    let at-clear = c .before .before .before .before .before .before .before .before .before in
+    let at-stopped-by = c .before .before .before in
+    let at-clear = at-stopped-by .before .before .before .before .before .before .before in
     let at-start-at = at-clear .before .before .before .before in
-    let at-number = at-start-at .before .before .before in
-    let at-program = at-number .before .before .before .before in
+    let at-code-at = at-start-at .before .before in
+    let at-asked = at-code-at .before .before .before in
+    let at-program = at-asked .before .before .before .before in
     let at-start = at-program .before .before .before .before .before .before .before in
     let p = at-start .pre .0 in
     let h = hands p in
     let e = at-clear .clear .ensures in
-    refuses p h (at-program .program .kept .1 .1 .0 ∙ at-start .pre .1) (told (at-number .number .given .1) (descends h (at-program .program .ensures))) (at-start-at .start-at .ensures) (e .0) (e .1 .0) (e .1 .1)
+    refuses p h (at-program .program .kept .1 .1 .0 ∙ at-start .pre .1) (told (at-asked .asked .given .1) (descends h (at-program .program .ensures))) (at-stopped-by .stopped-by .ensures) (at-code-at .code-at .ensures) (at-start-at .start-at .ensures) (e .0) (e .1 .0) (e .1 .1)
 
 pub read-tokens-spec : {M : Type 1} → statement M
 read-tokens-spec =
@@ -144,14 +169,18 @@ read-tokens-spec =
     cast-finish
     cast-finish-2
     finish-requires
-    enum-known-number
+    enum-known-asked
+    slice-reshare-prefix-code-at
+    slice-aggregate-code-at
+    code-at-requires
     slice-reshare-prefix-start-at
     slice-aggregate-start-at
     start-at-requires
     clear-requires
-    cast-t33
-    cast-t34
-    cast-t35
+    stopped-by-requires
+    cast-t37
+    cast-t38
+    cast-t39
     same-length
     same-length-2
     returns

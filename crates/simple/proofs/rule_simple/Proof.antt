@@ -4,7 +4,7 @@ use Prim.Native.Nat.{ℕ}
 use mathlib.Core.Path.{_≡_, refl}
 use mathlib.Core.Bool.{true, false}
 use mathlib.Core.Logic.{⊎-elim}
-use mathlib.Core.List.{[], _∷_}
+use mathlib.Core.List.{List, [], _∷_, _++_}
 use native.Mathlib.Omega.{arith}
 use Rattle.token.specs.Code as code
 use Rattle.grammar.specs.Sets.{mem}
@@ -12,12 +12,17 @@ use Rattle.grammar.specs.Descent.{null, begins}
 use Rattle.pyhyeon.specs.Rules.{plain}
 use Rattle.pyhyeon.specs.Tables.{joined, first, opens, firstE}
 use Rattle.lookahead.proofs.Tests.{coded}
-use Rattle.joint.proofs.Chain.{open-plain, tok-then, or-first, or-next}
+use Rattle.joint.proofs.Chain.{open-plain, tok-then}
+use Rattle.joint.proofs.Choices.{starts, or-first, or-next}
 use Rattle.simple.proofs.Stating.{Opening, opening-return, opening-other}
 use Rattle.joint.proofs.Taken.{Taken, taken-ready}
 use borrow.Author.Needs.{needs}
 use Rattle.simple.proofs.rule_simple.Statement.{statement}
 use Rattle.simple.proofs.rule_simple.Tie as tie
+
+-- the words that are a statement of their own
+abbrev words : List ℕ
+words = code.Break ∷ code.Continue ∷ code.Pass ∷ []
 
 -- where the arms meet: the first t's role, and the state there
 opening : (c : tie.At-match-came) → let at-start = c .before .before .before .before .before .before .before .before in Opening (at-start .args .src .now) (at-start .args .toks .now) (at-start .args .s) (at-start .args .tree .now) (c .match .role) (c .match .st)
@@ -96,7 +101,7 @@ returns c =
     let k = at-match .match .keys1 in
     let l = alone at-symbol-at code.Break refl refl refl k in
     let word = rw (at-symbol-at .before .past .ensures) at (at-word .word .ensures) in
-    (open-plain refl (λ vs. or-next (l .here) (coded (code.Return ∷ []) 13 x k refl) (or-next (l .here) (coded firstE 13 x k refl) (or-first (l .here) (l .seen) (tok-then (l .here) (l .seen) (word .0 _ _ (l .used) .comes vs))))), word .1)
+    (open-plain refl (λ vs. or-next (l .here) (coded (code.Return ∷ []) 13 x k refl) (starts (coded (firstE ++ words) 13 x k refl)) (or-next (l .here) (coded firstE 13 x k refl) (starts (coded words 13 x k refl)) (or-first (l .here) (l .seen) (tok-then (l .here) (l .seen) (word .0 _ _ (l .used) .comes vs))))), word .1)
 
 same-length-2 : tie.Need-same-length-2
 same-length-2 c = search needs
@@ -111,7 +116,7 @@ returns-2 c =
     let k = at-match .match .keys2 in
     let l = alone at-symbol-at code.Continue refl refl refl k in
     let word = rw (at-symbol-at .before .past .ensures) at (at-word2 .word2 .ensures) in
-    (open-plain refl (λ vs. or-next (l .here) (coded (code.Return ∷ []) 14 x k refl) (or-next (l .here) (coded firstE 14 x k refl) (or-next (l .here) (coded (code.Break ∷ []) 14 x k refl) (or-first (l .here) (l .seen) (tok-then (l .here) (l .seen) (word .0 _ _ (l .used) .comes vs)))))), word .1)
+    (open-plain refl (λ vs. or-next (l .here) (coded (code.Return ∷ []) 14 x k refl) (starts (coded (firstE ++ words) 14 x k refl)) (or-next (l .here) (coded firstE 14 x k refl) (starts (coded words 14 x k refl)) (or-next (l .here) (coded (code.Break ∷ []) 14 x k refl) (starts (coded (code.Continue ∷ code.Pass ∷ []) 14 x k refl)) (or-first (l .here) (l .seen) (tok-then (l .here) (l .seen) (word .0 _ _ (l .used) .comes vs)))))), word .1)
 
 same-length-3 : tie.Need-same-length-3
 same-length-3 c = search needs
@@ -126,7 +131,7 @@ returns-3 c =
     let k = at-match .match .keys3 in
     let l = alone at-symbol-at code.Pass refl refl refl k in
     let word = rw (at-symbol-at .before .past .ensures) at (at-word3 .word3 .ensures) in
-    (open-plain refl (λ vs. or-next (l .here) (coded (code.Return ∷ []) 15 x k refl) (or-next (l .here) (coded firstE 15 x k refl) (or-next (l .here) (coded (code.Break ∷ []) 15 x k refl) (or-next (l .here) (coded (code.Continue ∷ []) 15 x k refl) (tok-then (l .here) (l .seen) (word .0 _ _ (l .used) .comes vs)))))), word .1)
+    (open-plain refl (λ vs. or-next (l .here) (coded (code.Return ∷ []) 15 x k refl) (starts (coded (firstE ++ words) 15 x k refl)) (or-next (l .here) (coded firstE 15 x k refl) (starts (coded words 15 x k refl)) (or-next (l .here) (coded (code.Break ∷ []) 15 x k refl) (starts (coded (code.Continue ∷ code.Pass ∷ []) 15 x k refl)) (or-next (l .here) (coded (code.Continue ∷ []) 15 x k refl) (starts (coded (code.Pass ∷ []) 15 x k refl)) (tok-then (l .here) (l .seen) (word .0 _ _ (l .used) .comes vs)))))), word .1)
 
 same-length-4 : tie.Need-same-length-4
 same-length-4 c = search needs

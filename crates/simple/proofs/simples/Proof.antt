@@ -184,7 +184,7 @@ returns-4 c =
     let at-start = c .before .before .before .before .before .before .before in
     let r = at-start .pre in
     let b = learnt firstSimple (c .if1 .left) (c .before .begins-simple .ensures) (c .before .before .symbol-at .ensures) in
-    record { comes = λ vs. part-stop _ (not-called (r .here) (r .used) b) refl }
+    record { comes = λ vs. part-stop _ (not-called (r .here) (r .used) b refl) refl }
 
 pub simples-spec : {M : Type 1} → statement M
 simples-spec =

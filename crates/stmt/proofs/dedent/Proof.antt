@@ -39,7 +39,7 @@ returns-2 c =
     let at-start = c .before .before .before .before .before .before in
     let h = at-start .pre .1 .0 in
     let e = learnt (code.Dedent ∷ []) (c .if1 .left) (c .before .is-symbol .ensures) (c .before .before .symbol-at .ensures) in
-    λ room tr. record { comes = λ vs. tok-no h (at-start .pre .1 .1) e }
+    λ room tr. record { comes = λ vs. tok-no h (at-start .pre .1 .1) e refl }
 
 pub dedent-spec : {M : Type 1} → statement M
 dedent-spec = tie.close (tie.spec symbol-at-requires is-symbol-requires past-requires returns returns-2)

@@ -2,11 +2,15 @@
 -- Assumes nothing.
 use Rattle.joint.proofs.Taken.{ready-tested}
 use Rattle.joint.proofs.Loops.{ready-of}
-use Rattle.joint.proofs.Chain.{tok-then, or-first, or-next}
-use Rattle.joint.proofs.Ends.{one-then}
-use Rattle.lookahead.proofs.Tests.{learnt}
+use Rattle.joint.proofs.Chain.{tok-then, tok-not, list-end}
+use Rattle.joint.proofs.Choices.{or-first, or-last}
+use Rattle.joint.proofs.Ends.{one-then, done-then}
+use Rattle.lookahead.proofs.Tests.{learnt, of-neither}
+use Rattle.lookahead.specs.Tokens.{symbolAt}
+use Rattle.expr.proofs.Low.{low-member}
 use Rattle.token.specs.Code as code
 use Rattle.grammar.specs.Descent.{null, begins}
+use mathlib.Core.Bool.{false}
 use mathlib.Core.List.{[], _∷_}
 use mathlib.Core.Path.{refl}
 use borrow.Author.Needs.{needs}
@@ -67,9 +71,15 @@ module _ (t : ℕ) where
   returns-2 c =
       let at-listed = c .before .before in
       let at-if1 = at-listed .before .before in
-      let r = at-if1 .before .before .before .before .before .before .before .pre .1 .0 in
+      let at-start = at-if1 .before .before .before .before .before .before .before in
+      let r = at-start .pre .1 .0 in
       let e = learnt (code.Colon ∷ []) (at-if1 .if1 .left) (at-if1 .before .is-symbol .ensures) (at-if1 .before .before .symbol-at .ensures) in
-      record { comes = λ vs. or-next (r .here) e (one-then (at-listed .listed .ensures .comes vs)) }
+      record {
+        comes = λ vs. or-last (r .here) e refl refl
+            (λ f. let n = of-neither (code.Comma ∷ []) (code.RBrace ∷ []) (symbolAt (at-start .args .src .now) (at-start .args .toks .now) (at-start .args .s .at .0)) f in
+            one-then (list-end (low-member false) (r .here) (n .0) (done-then (tok-not (r .here) (r .used) (n .1) refl))))
+            (one-then (at-listed .listed .ensures .comes vs));
+      }
 
   pub meets : {M : Type 1} → lts.Closed (calls t) (brace-at t) reads.Post M
   meets = lts.spec (calls t) (brace-at t) reads.Post symbol-at-requires is-symbol-requires past-requires pairs-requires listed-requires same-length returns same-length-2 returns-2

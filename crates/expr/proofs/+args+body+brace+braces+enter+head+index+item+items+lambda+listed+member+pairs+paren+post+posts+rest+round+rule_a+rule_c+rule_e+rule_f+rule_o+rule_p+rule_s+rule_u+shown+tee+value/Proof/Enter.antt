@@ -3,6 +3,7 @@
 use Rattle.joint.proofs.Chain.{called, not-called}
 use Rattle.lookahead.proofs.Tests.{learnt}
 use Rattle.pyhyeon.specs.Tables.{first, firstE}
+use mathlib.Core.Path.{refl}
 use borrow.Author.Needs.{needs}
 use native.Mathlib.Omega.{arith}
 use Prim.Native.Nat.{ℕ}
@@ -47,7 +48,7 @@ module _ (t : ℕ) where
   returns-2 c =
       let at-start = c .before .before .before .before .before .before .before in
       let e = learnt firstE (c .if1 .left) (c .before .begins-e .ensures) (c .before .before .symbol-at .ensures) in
-      not-called (at-start .pre .1 .here) (at-start .pre .1 .used) e
+      not-called (at-start .pre .1 .here) (at-start .pre .1 .used) e refl
 
   pub meets : {M : Type 1} → lts.Closed (calls t) (enter-at t) reads.Post M
   meets = lts.spec (calls t) (enter-at t) reads.Post symbol-at-requires begins-e-requires rule-e-requires same-length returns returns-2

@@ -8,7 +8,8 @@ use Rattle.pyhyeon.specs.Symbol.{Tee}
 use Rattle.joint.proofs.Taken.{taken-ready, taken-wrote}
 use Rattle.joint.proofs.Loops.{ready-of}
 use Rattle.joint.proofs.Ends.{act-literal, tok-mark}
-use Rattle.joint.proofs.Chain.{tok-then, or-first, or-next}
+use Rattle.joint.proofs.Chain.{tok-then}
+use Rattle.joint.proofs.Choices.{starts, or-first, or-next}
 use Rattle.lookahead.proofs.Tokens.{before-eof}
 use Rattle.lookahead.proofs.Tests.{not-first}
 use Rattle.pyhyeon.specs.Tables.{first, firstF}
@@ -106,7 +107,7 @@ module _ (t : ℕ) where
       let at-match = at-shown .before .before .before in
       let h = at-match .before .before .before .before .before .before .pre .1 .0 .here in
       let q = sym (at-match .before .symbol-at .ensures) ∙ at-match .match .keys1 in
-      record { comes = λ vs. or-next h (rw q) (or-first h (rw q) (tok-mark h (rw q) (rw (at-shown .before .past .ensures) at (at-shown .shown .ensures .comes vs)))) }
+      record { comes = λ vs. or-next h (rw q) (starts (rw q)) (or-first h (rw q) (tok-mark h (rw q) (rw (at-shown .before .past .ensures) at (at-shown .shown .ensures .comes vs)))) }
 
   same-length-2 : lts.Need-same-length-2 (calls t) (head-at t) reads.Post
   same-length-2 c = search needs
@@ -118,7 +119,7 @@ module _ (t : ℕ) where
       let at-match = at-tee .before .before .before in
       let h = at-match .before .before .before .before .before .before .pre .1 .0 .here in
       let q = sym (at-match .before .symbol-at .ensures) ∙ at-match .match .keys2 in
-      record { comes = λ vs. or-next h (rw q) (or-next h (rw q) (or-first h (rw q) (tok-then h (rw q) (rw (at-tee .before .past2 .ensures) at (at-tee .tee .ensures .comes vs))))) }
+      record { comes = λ vs. or-next h (rw q) (starts (rw q)) (or-next h (rw q) (starts (rw q)) (or-first h (rw q) (tok-then h (rw q) (rw (at-tee .before .past2 .ensures) at (at-tee .tee .ensures .comes vs))))) }
 
   same-length-3 : lts.Need-same-length-3 (calls t) (head-at t) reads.Post
   same-length-3 c = search needs
@@ -130,7 +131,7 @@ module _ (t : ℕ) where
       let at-match = at-braces .before .before .before in
       let h = at-match .before .before .before .before .before .before .pre .1 .0 .here in
       let q = sym (at-match .before .symbol-at .ensures) ∙ at-match .match .keys3 in
-      record { comes = λ vs. or-next h (rw q) (or-next h (rw q) (or-next h (rw q) (or-first h (rw q) (tok-mark h (rw q) (rw (at-braces .before .past3 .ensures) at (at-braces .braces .ensures .comes vs)))))) }
+      record { comes = λ vs. or-next h (rw q) (starts (rw q)) (or-next h (rw q) (starts (rw q)) (or-next h (rw q) (starts (rw q)) (or-first h (rw q) (tok-mark h (rw q) (rw (at-braces .before .past3 .ensures) at (at-braces .braces .ensures .comes vs)))))) }
 
   same-length-4 : lts.Need-same-length-4 (calls t) (head-at t) reads.Post
   same-length-4 c = search needs
@@ -142,7 +143,7 @@ module _ (t : ℕ) where
       let at-match = at-round .before .before .before in
       let h = at-match .before .before .before .before .before .before .pre .1 .0 .here in
       let q = sym (at-match .before .symbol-at .ensures) ∙ at-match .match .keys4 in
-      record { comes = λ vs. or-next h (rw q) (or-next h (rw q) (or-next h (rw q) (or-next h (rw q) (or-first h (rw q) (tok-mark h (rw q) (rw (at-round .before .past4 .ensures) at (at-round .round .ensures .comes vs))))))) }
+      record { comes = λ vs. or-next h (rw q) (starts (rw q)) (or-next h (rw q) (starts (rw q)) (or-next h (rw q) (starts (rw q)) (or-next h (rw q) (starts (rw q)) (or-first h (rw q) (tok-mark h (rw q) (rw (at-round .before .past4 .ensures) at (at-round .round .ensures .comes vs))))))) }
 
   same-length-5 : lts.Need-same-length-5 (calls t) (head-at t) reads.Post
   same-length-5 c = search needs
@@ -156,7 +157,7 @@ module _ (t : ℕ) where
       let h = r .here in
       let q = sym (at-match .before .symbol-at .ensures) ∙ at-match .match .keys5 in
       let m = taken-ready (code.Identifier ∷ []) refl refl r (rw q) in
-      record { comes = λ vs. or-next h (rw q) (or-next h (rw q) (or-next h (rw q) (or-next h (rw q) (or-next h (rw q) (taken-wrote m (rw (at-put-named .before .past5 .ensures) at (at-put-named .put-named .ensures (at-match .before .before .before .before .before .before .args .src .now)))))))) }
+      record { comes = λ vs. or-next h (rw q) (starts (rw q)) (or-next h (rw q) (starts (rw q)) (or-next h (rw q) (starts (rw q)) (or-next h (rw q) (starts (rw q)) (or-next h (rw q) (starts (rw q)) (taken-wrote m (rw (at-put-named .before .past5 .ensures) at (at-put-named .put-named .ensures (at-match .before .before .before .before .before .before .args .src .now)))))))) }
 
   same-length-6 : lts.Need-same-length-6 (calls t) (head-at t) reads.Post
   same-length-6 c = search needs

@@ -92,7 +92,7 @@ module _ (t : ℕ) where
       let at-inner = c .before .before .before .before .before in
       let g = behind at-inner in
       let e = learnt (code.RBracket ∷ []) (c .if1 .left) (c .before .is-symbol .ensures) (c .before .before .symbol-at .ensures) in
-      record { comes = λ vs. part-then (at-inner .before .before .before .before .enter .ensures) (at-inner .inner .given .1) (tok-not (g .here) (g .used) e) }
+      record { comes = λ vs. part-then (at-inner .before .before .before .before .enter .ensures) (at-inner .inner .given .1) (tok-not (g .here) (g .used) e refl) }
 
   same-length-3 : lts.Need-same-length-3 (calls t) (index-at t) reads.Post
   same-length-3 c = search needs

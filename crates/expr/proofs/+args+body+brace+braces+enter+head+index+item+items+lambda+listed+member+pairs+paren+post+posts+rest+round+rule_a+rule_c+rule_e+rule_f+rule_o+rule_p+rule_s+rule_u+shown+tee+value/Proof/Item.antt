@@ -98,7 +98,7 @@ module _ (t : ℕ) where
       let r = start at-inner .pre .1 .0 in
       let g = behind at-inner in
       let e = learnt (code.Colon ∷ []) (c .if1 .left) (c .before .is-symbol .ensures) (c .before .before .symbol-at .ensures) in
-      record { comes = λ vs. part-then (called (r .here) (start at-inner .pre .1 .1 .seen) (at-inner .before .before .before .before .rule-e .ensures)) (at-inner .inner .given .1) (tok-not (g .here) (g .used) e) }
+      record { comes = λ vs. part-then (called (r .here) (start at-inner .pre .1 .1 .seen) (at-inner .before .before .before .before .rule-e .ensures)) (at-inner .inner .given .1) (tok-not (g .here) (g .used) e refl) }
 
   same-length-3 : lts.Need-same-length-3 (calls t) (item-at t) reads.Post
   same-length-3 c = search needs

@@ -3,12 +3,14 @@
 use Rattle.expr.proofs.Read.{after-e}
 use Rattle.joint.proofs.Loops.{ready-of, lists-done}
 use Rattle.joint.proofs.Ends.{none-last, one-then}
-use Rattle.joint.proofs.Chain.{called, part-then, part-stop, or-first, or-next}
+use Rattle.joint.proofs.Chain.{called, part-then, part-stop}
+use Rattle.joint.proofs.Choices.{absent, or-first, or-next}
 use Rattle.leaves.specs.Contract.{Begun}
 use Rattle.pyhyeon.specs.Rules.{E}
 use Rattle.lookahead.proofs.Tests.{learnt}
 use Rattle.pyhyeon.specs.Tables.{first, firstE}
 use Rattle.grammar.specs.Descent.{null, begins}
+use mathlib.Core.Path.{refl}
 use borrow.Author.Needs.{needs}
 use native.Mathlib.Omega.{arith}
 use Prim.Native.Nat.{ℕ}
@@ -89,7 +91,7 @@ module _ (t : ℕ) where
   returns-3 c =
       let r = c .before .before .before .before .before .before .before .pre .1 in
       let b = learnt firstE (c .if1 .left) (c .before .begins-e .ensures) (c .before .before .symbol-at .ensures) in
-      record { comes = λ vs. or-next (r .here) b (none-last (r .used)) }
+      record { comes = λ vs. or-next (r .here) b (absent refl) (none-last (r .used)) }
 
   pub meets : {M : Type 1} → lts.Closed (calls t) (items-at t) reads.Post M
   meets = lts.spec (calls t) (items-at t) reads.Post symbol-at-requires begins-e-requires rule-e-requires enum-known-inner rest-requires enum-known-inner-2 same-length returns same-length-2 returns-2 returns-3

@@ -83,7 +83,7 @@ module _ (t : ℕ) where
       let at-names = c .before .before .before .before .before .before .before .before in
       let g = behind at-names in
       let e = learnt (code.Colon ∷ []) (c .if1 .left) (c .before .is-symbol .ensures) (c .before .before .symbol-at .ensures) in
-      record { comes = λ vs. part-then (at-names .names .ensures _) refl (tok-not (g .here) (g .used) e) }
+      record { comes = λ vs. part-then (at-names .names .ensures _) refl (tok-not (g .here) (g .used) e refl) }
 
   pub meets : {M : Type 1} → lts.Closed (calls t) (lambda-at t) reads.Post M
   meets = lts.spec (calls t) (lambda-at t) reads.Post names-requires symbol-at-requires is-symbol-requires past-requires body-requires same-length returns same-length-2 returns-2

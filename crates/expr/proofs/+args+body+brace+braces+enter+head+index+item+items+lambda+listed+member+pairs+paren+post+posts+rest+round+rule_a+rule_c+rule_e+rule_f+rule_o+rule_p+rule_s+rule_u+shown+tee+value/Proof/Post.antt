@@ -3,7 +3,8 @@
 use Rattle.pyhyeon.specs.Rules.{names}
 use Rattle.joint.proofs.Taken.{Taken, taken-ready, next-tested, taken-wrote}
 use Rattle.joint.proofs.Loops.{ready-of}
-use Rattle.joint.proofs.Chain.{tok-then, tok-not, or-first, or-next}
+use Rattle.joint.proofs.Chain.{tok-then, tok-not}
+use Rattle.joint.proofs.Choices.{starts, later, or-first, or-next}
 use Rattle.lookahead.proofs.Tests.{learnt, coded, not-first}
 use Rattle.token.specs.Code as code
 use Rattle.grammar.specs.Descent.{null, begins}
@@ -98,7 +99,7 @@ module _ (t : ℕ) where
       let l = passed at-past in
       let e = coded (code.Dot ∷ []) 45 (at-match .before .symbol-at .ensures) (at-match .match .keys1) refl in
       let n = learnt names (c .if1 .left) (c .before .is-name .ensures) (rw (at-past .past .ensures) at (c .before .before .symbol-at2 .ensures)) in
-      rw (at-past .past .ensures) (record { comes = λ vs. or-first (l .here) e (tok-then (l .here) e (tok-not (l .inside) (l .used) n)) })
+      rw (at-past .past .ensures) (record { comes = λ vs. or-first (l .here) e (tok-then (l .here) e (tok-not (l .inside) (l .used) n refl)) })
 
   same-length-2 : lts.Need-same-length-2 (calls t) (post-at t) reads.Post
   same-length-2 c = search needs
@@ -111,7 +112,7 @@ module _ (t : ℕ) where
       let at-past = at-match .before .before in
       let h = start at-past .pre .1 .0 .here in
       let q = sym (at-match .before .symbol-at .ensures) ∙ at-match .match .keys2 in
-      record { comes = λ vs. or-next h (rw q) (or-first h (rw q) (tok-then h (rw q) (rw (at-past .past .ensures) at (at-args2 .args2 .ensures .comes vs)))) }
+      record { comes = λ vs. or-next h (rw q) (starts (rw q)) (or-first h (rw q) (tok-then h (rw q) (rw (at-past .past .ensures) at (at-args2 .args2 .ensures .comes vs)))) }
 
   same-length-3 : lts.Need-same-length-3 (calls t) (post-at t) reads.Post
   same-length-3 c = search needs
@@ -127,7 +128,7 @@ module _ (t : ℕ) where
       let d = not-first 45 [] (at-match .before .symbol-at .ensures) (at-match .match .rest .0 .1) in
       let p = not-first 36 [] (at-match .before .symbol-at .ensures) (at-match .match .rest .1) in
       let e = sym (not-first 45 (code.LParen ∷ code.LBracket ∷ []) (at-match .before .symbol-at .ensures) (at-match .match .rest .0 .1) ∙ not-first 36 (code.LBracket ∷ []) (at-match .before .symbol-at .ensures) (at-match .match .rest .1)) ∙ at-start .pre .1 .1 .1 in
-      record { comes = λ vs. or-next (r .here) d (or-next (r .here) p (tok-then (r .here) e (rw (at-past .past .ensures) at (at-index .index .ensures .comes vs)))) }
+      record { comes = λ vs. or-next (r .here) d (later (starts e)) (or-next (r .here) p (starts e) (tok-then (r .here) e (rw (at-past .past .ensures) at (at-index .index .ensures .comes vs)))) }
 
   pub meets : {M : Type 1} → lts.Closed (calls t) (post-at t) reads.Post M
   meets = lts.spec (calls t) (post-at t) reads.Post past-requires symbol-at-requires symbol-at-requires-2 is-name-requires past-requires-2 put-attribute-requires args-requires index-requires same-length returns returns-2 same-length-2 returns-3 same-length-3 returns-4

@@ -3,7 +3,8 @@
 use Rattle.expr.proofs.Read.{after-e}
 use Rattle.joint.proofs.Taken.{ready-tested}
 use Rattle.joint.proofs.Loops.{ready-of}
-use Rattle.joint.proofs.Chain.{tok-then, tok-not, called, part-then, part-stop, or-first, or-next}
+use Rattle.joint.proofs.Chain.{tok-then, called, part-then, part-stop}
+use Rattle.joint.proofs.Choices.{starts, or-first, or-next, or-none}
 use Rattle.leaves.specs.Contract.{Begun}
 use Rattle.pyhyeon.specs.Rules.{E}
 use Rattle.lookahead.proofs.Tests.{learnt}
@@ -118,7 +119,7 @@ module _ (t : ℕ) where
       let r = at-start .pre .1 .0 in
       let b = learnt firstE (at-if1 .if1 .left) (at-if1 .before .begins-e .ensures) (at-if1 .before .before .symbol-at .ensures) in
       let e = learnt (code.RParen ∷ []) (at-if2 .if2 .taken) (at-if2 .before .is-symbol .ensures) (at-if1 .before .before .symbol-at .ensures) in
-      record { comes = λ vs. or-next (r .here) b (tok-then (r .here) e (rw (at-unit .before .past .ensures) at (at-unit .unit .ensures (at-start .args .left) .comes vs))) }
+      record { comes = λ vs. or-next (r .here) b (starts e) (tok-then (r .here) e (rw (at-unit .before .past .ensures) at (at-unit .unit .ensures (at-start .args .left) .comes vs))) }
 
   returns-4 : lts.Need-returns-4 (calls t) (round-at t) reads.Post
   unfolding first begins null
@@ -127,7 +128,7 @@ module _ (t : ℕ) where
       let r = at-if1 .before .before .before .before .before .before .before .pre .1 .0 in
       let b = learnt firstE (at-if1 .if1 .left) (at-if1 .before .begins-e .ensures) (at-if1 .before .before .symbol-at .ensures) in
       let e = learnt (code.RParen ∷ []) (c .if2 .left) (c .before .is-symbol .ensures) (at-if1 .before .before .symbol-at .ensures) in
-      record { comes = λ vs. or-next (r .here) b (tok-not (r .here) (r .used) e) }
+      record { comes = λ vs. or-none (r .here) (r .used) b refl e refl }
 
   pub meets : {M : Type 1} → lts.Closed (calls t) (round-at t) reads.Post M
   meets = lts.spec (calls t) (round-at t) reads.Post symbol-at-requires begins-e-requires rule-e-requires enum-known-inner paren-requires enum-known-inner-2 is-symbol-requires past-requires unit-requires same-length returns same-length-2 returns-2 same-length-3 returns-3 returns-4

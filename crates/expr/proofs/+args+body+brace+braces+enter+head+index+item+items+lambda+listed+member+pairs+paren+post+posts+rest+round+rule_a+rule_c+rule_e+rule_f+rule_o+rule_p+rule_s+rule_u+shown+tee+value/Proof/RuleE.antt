@@ -3,7 +3,8 @@
 use Rattle.joint.proofs.Taken.{ready-tested}
 use Rattle.joint.proofs.Loops.{ready-of}
 use Rattle.joint.proofs.Ends.{tok-mark}
-use Rattle.joint.proofs.Chain.{called, or-first, or-next, open-deep, open-room}
+use Rattle.joint.proofs.Chain.{called, open-deep, open-room}
+use Rattle.joint.proofs.Choices.{starts, or-first, or-next}
 use Rattle.lookahead.proofs.Tests.{learnt, without}
 use Rattle.pyhyeon.specs.Tables.{joined, first, firstU, opens}
 use Rattle.pyhyeon.specs.Rules.{plain}
@@ -88,7 +89,8 @@ module _ (t : ℕ) where
       let at-start = at-if1 .before .before .before .before .before in
       let r = at-start .pre .1 .0 in
       let e = learnt (code.Lambda ∷ []) (at-if2 .if2 .left) (at-if2 .before .is-symbol .ensures) (at-if2 .before .before .symbol-at .ensures) in
-      open-room refl (at-if1 .if1 .left) (λ vs. or-next (r .here) e (called (r .here) (without code.Lambda firstU (symbolAt (at-start .args .src .now) (at-start .args .toks .now) (at-start .args .s .at .0)) e (at-start .pre .1 .1 .seen)) (at-rule-o .rule-o .ensures) .comes vs))
+      let b = without code.Lambda firstU (symbolAt (at-start .args .src .now) (at-start .args .toks .now) (at-start .args .s .at .0)) e (at-start .pre .1 .1 .seen) in
+      open-room refl (at-if1 .if1 .left) (λ vs. or-next (r .here) e (starts b) (called (r .here) b (at-rule-o .rule-o .ensures) .comes vs))
 
   pub meets : {M : Type 1} → lts.Closed (calls t) (rule-e-at t) reads.Post M
   meets = lts.spec (calls t) (rule-e-at t) reads.Post sub-room add-opened symbol-at-requires is-symbol-requires add-t lambda-requires rule-o-requires returns same-length returns-2 same-length-2 returns-3

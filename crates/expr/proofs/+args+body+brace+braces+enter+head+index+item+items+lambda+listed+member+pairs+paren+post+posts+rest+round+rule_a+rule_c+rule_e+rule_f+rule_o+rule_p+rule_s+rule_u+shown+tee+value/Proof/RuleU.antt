@@ -101,7 +101,7 @@ module _ (t : ℕ) where
       let r = c .before .before .before .before .before .before .before .before .pre .1 .0 in
       let k = c .before .before .skip-signs .ensures in
       let e = sym (c .before .behind-signs .ensures) ∙ c .if1 .left in
-      open-plain refl (λ vs. signs-then (signs-pass k (part-stop _ (not-called (k .inside) (r .used ∙ sym (run-text signSet refl refl (r .tokens) k)) e) refl)))
+      open-plain refl (λ vs. signs-then (signs-pass k (part-stop _ (not-called (k .inside) (r .used ∙ sym (run-text signSet refl refl (r .tokens) k)) e refl) refl)))
 
   pub meets : {M : Type 1} → lts.Closed (calls t) (rule-u-at t) reads.Post M
   meets = lts.spec (calls t) (rule-u-at t) reads.Post add-opened skip-signs-requires behind-signs-requires rule-f-requires enum-known-inner wrap-requires enum-known-inner-2 same-length returns same-length-2 returns-2 returns-3

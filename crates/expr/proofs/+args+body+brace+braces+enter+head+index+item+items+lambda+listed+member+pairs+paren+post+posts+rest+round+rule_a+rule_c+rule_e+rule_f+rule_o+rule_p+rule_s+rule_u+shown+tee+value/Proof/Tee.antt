@@ -4,7 +4,8 @@ use Rattle.joint.proofs.Taken.{ready-tested}
 use Rattle.joint.proofs.Ends.{mark-at}
 use Rattle.joint.proofs.Loops.{ready-of}
 use Rattle.joint.proofs.Ends.{act-wrote}
-use Rattle.joint.proofs.Chain.{tok-then, or-first, or-next}
+use Rattle.joint.proofs.Chain.{tok-then}
+use Rattle.joint.proofs.Choices.{absent, or-first, or-next}
 use Rattle.lookahead.proofs.Tests.{learnt}
 use Rattle.token.specs.Code as code
 use Rattle.grammar.specs.Descent.{null, begins}
@@ -69,7 +70,7 @@ module _ (t : ℕ) where
       let at-if1 = at-put-named .before .before in
       let r = at-if1 .before .before .before .before .before .before .before .pre .1 .0 in
       let e = learnt (code.LBrace ∷ []) (at-if1 .if1 .left) (at-if1 .before .is-symbol .ensures) (at-if1 .before .before .symbol-at .ensures) in
-      record { comes = λ vs. or-next (r .here) e (act-wrote (r .used) (at-put-named .put-named .ensures _)) }
+      record { comes = λ vs. or-next (r .here) e (absent refl) (act-wrote (r .used) (at-put-named .put-named .ensures _)) }
 
   pub meets : {M : Type 1} → lts.Closed (calls t) (tee-at t) reads.Post M
   meets = lts.spec (calls t) (tee-at t) reads.Post symbol-at-requires is-symbol-requires past-requires shown-requires put-named-requires same-length returns same-length-2 returns-2

@@ -3,7 +3,8 @@
 use Rattle.expr.proofs.Read.{after-enter}
 use Rattle.joint.proofs.Taken.{Taken, taken-tested}
 use Rattle.joint.proofs.Loops.{ready-of}
-use Rattle.joint.proofs.Chain.{tok-then, part-then, part-stop, or-first, or-next, skip-end}
+use Rattle.joint.proofs.Chain.{tok-then, part-then, part-stop, skip-end}
+use Rattle.joint.proofs.Choices.{absent, or-first, or-next}
 use Rattle.joint.proofs.Bounds.{Grown}
 use Rattle.lookahead.proofs.Tests.{learnt}
 use Rattle.token.specs.Code as code
@@ -83,7 +84,7 @@ returns-2 c =
     let at-inner = c .before .before .before .before .before in
     let g = behind at-inner in
     let e = learnt (code.Comma ∷ []) (c .if1 .left) (c .before .is-symbol .ensures) (c .before .before .symbol-at .ensures) in
-    record { comes = λ vs. part-then (at-inner .before .before .before .before .enter .ensures) (at-inner .inner .given .1) (or-next (g .here) e (skip-end (g .used))) }
+    record { comes = λ vs. part-then (at-inner .before .before .before .before .enter .ensures) (at-inner .inner .given .1) (or-next (g .here) e (absent refl) (skip-end (g .used))) }
 
 same-length-3 : tie.Need-same-length-3
 same-length-3 c = search needs

@@ -3,7 +3,8 @@
 use Rattle.expr.proofs.Read.{after-e}
 use Rattle.joint.proofs.Loops.{ready-of}
 use Rattle.joint.proofs.Ends.{act-wrote, one-then, changed-then}
-use Rattle.joint.proofs.Chain.{called, part-then, part-stop, flat, or-first, or-next, skip-end}
+use Rattle.joint.proofs.Chain.{called, part-then, part-stop, flat, skip-end}
+use Rattle.joint.proofs.Choices.{absent, or-first, or-next}
 use Rattle.leaves.specs.Contract.{Begun}
 use Rattle.pyhyeon.specs.Rules.{E}
 use Rattle.joint.proofs.Bounds.{Grown}
@@ -11,6 +12,7 @@ use Rattle.lookahead.proofs.Tests.{learnt}
 use Rattle.pyhyeon.specs.Tables.{first, firstE}
 use Rattle.grammar.specs.Descent.{null, begins}
 use native.Mathlib.Omega.{arith}
+use mathlib.Core.Path.{refl}
 use borrow.Author.Needs.{needs}
 use Rattle.expr.proofs.comma.comma_rest.Statement.{statement}
 use Rattle.expr.proofs.comma.comma_rest.Tie as tie
@@ -136,7 +138,7 @@ unfolding first begins null
 returns-4 c =
     let r = c .before .before .before .before .before .before .before .pre .0 in
     let b = learnt firstE (c .if1 .left) (c .before .begins-e .ensures) (c .before .before .symbol-at .ensures) in
-    record { comes = λ vs. or-next (r .here) b (skip-end (r .used)) }
+    record { comes = λ vs. or-next (r .here) b (absent refl) (skip-end (r .used)) }
 
 pub comma-rest-spec : {M : Type 1} → statement M
 comma-rest-spec =

@@ -4,7 +4,8 @@ use Rattle.pyhyeon.specs.Rules.{names}
 use Rattle.joint.proofs.Taken.{ready-tested}
 use Rattle.joint.proofs.Loops.{ready-of}
 use Rattle.joint.proofs.Ends.{none-last, wrote-then, one-then}
-use Rattle.joint.proofs.Chain.{tok-then, flat, or-first, or-next}
+use Rattle.joint.proofs.Chain.{tok-then, flat}
+use Rattle.joint.proofs.Choices.{absent, or-first, or-next}
 use Rattle.lookahead.proofs.Tests.{learnt}
 use Rattle.grammar.specs.Descent.{null, begins}
 use mathlib.Core.Path.{refl}
@@ -57,7 +58,7 @@ unfolding begins null
 returns-2 c =
     let r = c .before .before .before .before .before .before .before .pre in
     let e = learnt names (c .if1 .left) (c .before .is-name .ensures) (c .before .before .symbol-at .ensures) in
-    λ room. record { comes = λ vs. or-next (r .here) e (none-last (r .used)) }
+    λ room. record { comes = λ vs. or-next (r .here) e (absent refl) (none-last (r .used)) }
 
 pub names-spec : {M : Type 1} → statement M
 names-spec =

@@ -5,6 +5,7 @@ use Rattle.token.specs.Code as code
 use Rattle.pyhyeon.specs.Tables.{first}
 use Rattle.lookahead.proofs.Tests.{learnt}
 use Rattle.joint.proofs.Chain.{called, no-call}
+use mathlib.Core.Path.{refl}
 use borrow.Author.Needs.{needs}
 use native.Mathlib.Omega.{arith}
 use Prim.Native.Nat.{ℕ}
@@ -54,7 +55,7 @@ module _ (t : ℕ) where
       let at-start = c .before .before .before .before .before .before .before in
       let r = at-start .pre .1 in
       let e = learnt (code.Colon ∷ []) (c .if1 .left) (c .before .is-symbol .ensures) (c .before .before .symbol-at .ensures) in
-      no-call (r .here) (r .used) e
+      no-call (r .here) (r .used) e refl
 
   pub meets : {M : Type 1} → lts.Closed (calls t) (block-at t) reads.Post M
   meets = lts.spec (calls t) (block-at t) reads.Post symbol-at-requires is-symbol-requires rule-block-requires same-length returns returns-2

@@ -138,7 +138,7 @@ module _ (t : ℕ) where
       let at-start = c .before .before .before .before .before .before .before in
       let r = at-start .pre .1 .0 in
       let e = learnt (code.Indent ∷ []) (c .if1 .left) (c .before .is-symbol .ensures) (c .before .before .symbol-at .ensures) in
-      (record { comes = λ vs. tok-not (r .here) (r .used) e }, newest-refused)
+      (record { comes = λ vs. tok-not (r .here) (r .used) e refl }, newest-refused)
 
   pub meets : {M : Type 1} → lts.Closed (calls t) (class-body-at t) reads.Post M
   meets = lts.spec (calls t) (class-body-at t) reads.Post symbol-at-requires is-symbol-requires past-requires method-requires enum-known-one further-requires enum-known-rest class-end-requires enum-known-rest-2 enum-known-one-2 same-length returns same-length-2 returns-2 same-length-3 returns-3 returns-4

@@ -90,14 +90,14 @@ module _ (t : ℕ) where
       let at-past = c .before .before .before .before in
       let d = name (at-past .before) in
       let e = learnt (code.In ∷ []) (c .if2 .left) (c .before .is-symbol .ensures) (rw (at-past .past .ensures) at (c .before .before .symbol-at2 .ensures)) in
-      rw (at-past .past .ensures) (record { comes = λ vs. flat (tok-mark (d .here) (d .seen) (tok-not (d .inside) (d .used) e)) }, newest-refused)
+      rw (at-past .past .ensures) (record { comes = λ vs. flat (tok-mark (d .here) (d .seen) (tok-not (d .inside) (d .used) e refl)) }, newest-refused)
 
   returns-3 : lts.Need-returns-3 (calls t) (each-at t) reads.Post
   returns-3 c =
       let at-start = c .before .before .before .before .before .before .before in
       let r = at-start .pre .1 .0 in
       let e = learnt names (c .if1 .left) (c .before .is-name .ensures) (c .before .before .symbol-at .ensures) in
-      (record { comes = λ vs. flat (tok-not (r .here) (r .used) e) }, newest-refused)
+      (record { comes = λ vs. flat (tok-not (r .here) (r .used) e refl) }, newest-refused)
 
   pub meets : {M : Type 1} → lts.Closed (calls t) (each-at t) reads.Post M
   meets = lts.spec (calls t) (each-at t) reads.Post symbol-at-requires is-name-requires past-requires symbol-at-requires-2 is-symbol-requires past-requires-2 range-requires same-length returns returns-2 returns-3

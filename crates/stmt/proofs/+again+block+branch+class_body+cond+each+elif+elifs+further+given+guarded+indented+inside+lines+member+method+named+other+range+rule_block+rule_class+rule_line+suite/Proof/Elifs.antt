@@ -5,7 +5,8 @@ use Rattle.stmt.proofs.Members.{rest-last}
 use Rattle.stmt.specs.Parts.{elifOn}
 use Rattle.joint.proofs.Loops.{ready-of}
 use Rattle.joint.proofs.Ends.{one-then, none-last}
-use Rattle.joint.proofs.Chain.{flat, flat-then, flat-stop, or-first, or-next}
+use Rattle.joint.proofs.Chain.{flat, flat-then, flat-stop}
+use Rattle.joint.proofs.Choices.{absent, or-first, or-next}
 use Rattle.joint.proofs.Counts.{came-start, came-node}
 use Rattle.joint.proofs.Taken.{Taken, ready-tested}
 use Rattle.lookahead.proofs.Tests.{learnt}
@@ -94,7 +95,7 @@ module _ (t : ℕ) where
       let at-start = c .before .before .before .before .before .before .before in
       let r = at-start .pre .1 in
       let e = learnt (code.Elif ∷ []) (c .if1 .left) (c .before .is-symbol .ensures) (c .before .before .symbol-at .ensures) in
-      record { comes = λ vs. or-next (r .here) e (none-last (r .used)) }
+      record { comes = λ vs. or-next (r .here) e (absent refl) (none-last (r .used)) }
 
   pub meets : {M : Type 1} → lts.Closed (calls t) (elifs-at t) reads.Post M
   meets = lts.spec (calls t) (elifs-at t) reads.Post symbol-at-requires is-symbol-requires elif-requires enum-known-one further-requires enum-known-one-2 same-length returns same-length-2 returns-2 returns-3

@@ -142,7 +142,7 @@ module _ (t : ℕ) where
       let at-names = c .before .before .before .before .before .before .before .before in
       let g = went at-names in
       let e = learnt (code.RParen ∷ []) (c .if1 .left) (c .before .is-symbol .ensures) (c .before .before .symbol-at .ensures) in
-      (record { comes = λ vs. part-then (at-names .names .ensures _) refl (tok-not (g .here) (g .used) e) }, newest-refused)
+      (record { comes = λ vs. part-then (at-names .names .ensures _) refl (tok-not (g .here) (g .used) e refl) }, newest-refused)
 
   pub meets : {M : Type 1} → lts.Closed (calls t) (given-at t) reads.Post M
   meets = lts.spec (calls t) (given-at t) reads.Post names-requires symbol-at-requires is-symbol-requires past-requires block-requires enum-known-body put-def-requires enum-known-body-2 same-length returns same-length-2 returns-2 same-length-3 returns-3

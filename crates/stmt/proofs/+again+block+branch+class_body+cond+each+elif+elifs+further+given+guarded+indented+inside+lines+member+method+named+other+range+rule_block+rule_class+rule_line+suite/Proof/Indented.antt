@@ -92,7 +92,7 @@ module _ (t : ℕ) where
       let at-start = c .before .before .before .before .before .before .before in
       let r = at-start .pre .1 in
       let e = learnt (code.Indent ∷ []) (c .if1 .left) (c .before .is-symbol .ensures) (c .before .before .symbol-at .ensures) in
-      record { comes = λ vs. tok-not (r .here) (r .used) e }
+      record { comes = λ vs. tok-not (r .here) (r .used) e refl }
 
   pub meets : {M : Type 1} → lts.Closed (calls t) (indented-at t) reads.Post M
   meets = lts.spec (calls t) (indented-at t) reads.Post symbol-at-requires is-symbol-requires past-requires inside-requires enum-known-body dedent-requires enum-known-body-2 same-length returns same-length-2 returns-2 returns-3

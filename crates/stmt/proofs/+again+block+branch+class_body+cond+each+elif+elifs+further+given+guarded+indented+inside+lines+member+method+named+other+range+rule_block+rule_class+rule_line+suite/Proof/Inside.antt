@@ -6,7 +6,7 @@ use Rattle.grammar.specs.Descent.{null, begins}
 use Rattle.token.specs.Code as code
 use Rattle.pyhyeon.specs.Tables.{first, firstLine}
 use Rattle.lookahead.proofs.Tests.{learnt}
-use Rattle.joint.proofs.Chain.{or-first, or-next}
+use Rattle.joint.proofs.Choices.{absent, or-first, or-next}
 use Rattle.joint.proofs.Ends.{none-last}
 use Rattle.joint.proofs.Loops.{ready-of}
 use Rattle.joint.proofs.Passing.{newlines-pass, run-text}
@@ -67,7 +67,7 @@ module _ (t : ℕ) where
       let at-start = c .before .before .before .before .before .before .before in
       let r = at-start .pre .1 in
       let b = learnt (code.Newline ∷ firstLine) (c .if1 .left) (c .before .begins-lines .ensures) (c .before .before .symbol-at .ensures) in
-      record { comes = λ vs. or-next (r .here) b (none-last (r .used)) }
+      record { comes = λ vs. or-next (r .here) b (absent refl) (none-last (r .used)) }
 
   pub meets : {M : Type 1} → lts.Closed (calls t) (inside-at t) reads.Post M
   meets = lts.spec (calls t) (inside-at t) reads.Post symbol-at-requires begins-lines-requires skip-newlines-requires lines-requires same-length returns returns-2

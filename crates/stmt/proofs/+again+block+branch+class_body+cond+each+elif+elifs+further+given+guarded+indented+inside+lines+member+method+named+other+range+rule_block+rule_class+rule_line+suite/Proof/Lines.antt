@@ -151,7 +151,7 @@ module _ (t : ℕ) where
       let at-start = c .before .before .before .before .before .before .before in
       let r = at-start .pre .1 in
       let b = learnt firstLine (c .if1 .left) (c .before .begins-line .ensures) (c .before .before .symbol-at .ensures) in
-      record { comes = λ vs. part-stop {mid = a-growing} _ (no-call (r .here) (r .used) b) refl }
+      record { comes = λ vs. part-stop {mid = a-growing} _ (no-call (r .here) (r .used) b refl) refl }
 
   pub meets : {M : Type 1} → lts.Closed (calls t) (lines-at t) reads.Post M
   meets = lts.spec (calls t) (lines-at t) reads.Post Inv-loop μ-loop symbol-at-requires begins-line-requires loop-holds rule-line-requires enum-known-inner sub-k skip-newlines-requires append-requires symbol-at-requires-2 begins-line-requires-2 loop-less loop-again same-length returns enum-known-inner-2 same-length-2 returns-2 returns-3

@@ -64,7 +64,7 @@ module _ (t : ℕ) where
       let at-start = c .before .before .before .before .before .before .before in
       let r = at-start .pre .1 in
       let e = learnt (code.Def ∷ []) (c .if1 .left) (c .before .is-symbol .ensures) (c .before .before .symbol-at .ensures) in
-      record { comes = λ vs. tok-not (r .here) (r .used) e }
+      record { comes = λ vs. tok-not (r .here) (r .used) e refl }
 
   pub meets : {M : Type 1} → lts.Closed (calls t) (method-at t) reads.Post M
   meets = lts.spec (calls t) (method-at t) reads.Post symbol-at-requires is-symbol-requires past-requires named-requires same-length returns returns-2

@@ -2,7 +2,8 @@
 -- Assumes nothing.
 use Rattle.joint.proofs.Loops.{ready-of}
 use Rattle.joint.proofs.Ends.{tok-mark, wrote-then, one-then, list-last, none-last}
-use Rattle.joint.proofs.Chain.{part-then, part-stop, or-first, or-next}
+use Rattle.joint.proofs.Chain.{part-then, part-stop}
+use Rattle.joint.proofs.Choices.{absent, or-first, or-next}
 use Rattle.joint.proofs.Counts.{came-call, pays-block}
 use Rattle.joint.proofs.Taken.{Taken, ready-tested}
 use Rattle.lookahead.proofs.Tests.{learnt}
@@ -105,7 +106,7 @@ module _ (t : ℕ) where
       let at-start = c .before .before .before .before .before .before .before in
       let r = at-start .pre .1 in
       let e = learnt (code.Else ∷ []) (c .if1 .left) (c .before .is-symbol .ensures) (c .before .before .symbol-at .ensures) in
-      record { comes = λ vs. or-next (r .here) e (none-last (r .used)) }
+      record { comes = λ vs. or-next (r .here) e (absent refl) (none-last (r .used)) }
 
   pub meets : {M : Type 1} → lts.Closed (calls t) (other-at t) reads.Post M
   meets = lts.spec (calls t) (other-at t) reads.Post symbol-at-requires is-symbol-requires past-requires block-requires enum-known-body put-else-requires enum-known-body-2 same-length returns same-length-2 returns-2 returns-3

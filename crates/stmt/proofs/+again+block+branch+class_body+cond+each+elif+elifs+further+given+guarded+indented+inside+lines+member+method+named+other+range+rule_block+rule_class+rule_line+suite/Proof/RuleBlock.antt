@@ -6,7 +6,8 @@ use Rattle.grammar.specs.Descent.{null, begins}
 use Rattle.token.specs.Code as code
 use Rattle.pyhyeon.specs.Tables.{joined, first, opens}
 use Rattle.lookahead.proofs.Tests.{learnt}
-use Rattle.joint.proofs.Chain.{tok-then, or-first, or-next, open-deep, open-room}
+use Rattle.joint.proofs.Chain.{tok-then, not-called, part-stop, flat, open-deep, open-room}
+use Rattle.joint.proofs.Choices.{or-first, or-last}
 use Rattle.joint.proofs.Loops.{ready-of}
 use Rattle.joint.proofs.Taken.{Taken, taken-ready, next-tested}
 use Rattle.joint.proofs.Passing.{newlines-pass, run-text}
@@ -110,7 +111,7 @@ module _ (t : ℕ) where
       let at-if1 = at-if2 .before .before .before .before .before in
       let d = colon (at-if1 .before .before .before .before) in
       let e = learnt (code.Newline ∷ []) (at-if2 .if2 .left) (at-if2 .before .is-symbol .ensures) (at-if2 .before .before .symbol-at .ensures) in
-      open-room refl (at-if1 .if1 .left) (λ vs. tok-then (d .here) (d .seen) (or-next (d .inside) e (list-through _ (at-simples .simples .ensures) vs)))
+      open-room refl (at-if1 .if1 .left) (λ vs. tok-then (d .here) (d .seen) (or-last (d .inside) e refl refl (λ f. flat (part-stop _ (not-called (d .inside) (d .used) f refl) refl)) (list-through _ (at-simples .simples .ensures) vs)))
 
   pub meets : {M : Type 1} → lts.Closed (calls t) (rule-block-at t) reads.Post M
   meets = lts.spec (calls t) (rule-block-at t) reads.Post sub-room add-opened add-t symbol-at-requires is-symbol-requires add-u skip-newlines-requires indented-requires simples-requires returns same-length returns-2 same-length-2 returns-3

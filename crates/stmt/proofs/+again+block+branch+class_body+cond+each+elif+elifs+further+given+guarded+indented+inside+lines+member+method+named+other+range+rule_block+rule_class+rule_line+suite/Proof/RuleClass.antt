@@ -78,7 +78,7 @@ module _ (t : ℕ) where
   returns-2 c =
       let d = class (c .before .before .before .before .before .before .before .before .before) in
       let e = learnt names (c .if1 .left) (c .before .is-name .ensures) (c .before .before .symbol-at .ensures) in
-      (open-plain refl (λ vs. tok-mark (d .here) (d .seen) (flat (tok-not (d .inside) (d .used) e))), newest-refused)
+      (open-plain refl (λ vs. tok-mark (d .here) (d .seen) (flat (tok-not (d .inside) (d .used) e refl))), newest-refused)
 
   pub meets : {M : Type 1} → lts.Closed (calls t) (rule-class-at t) reads.Post M
   meets = lts.spec (calls t) (rule-class-at t) reads.Post add-opened add-t symbol-at-requires is-name-requires past-requires suite-requires same-length returns returns-2

@@ -7,9 +7,11 @@ use Rattle.grammar.specs.Sets.{mem}
 use Rattle.grammar.specs.Descent.{null, begins}
 use Rattle.token.specs.Code as code
 use Rattle.pyhyeon.specs.Rules.{plain}
-use Rattle.pyhyeon.specs.Tables.{joined, first, opens}
-use Rattle.lookahead.proofs.Tests.{coded, not-first}
-use Rattle.joint.proofs.Chain.{called, or-first, or-next, alt-first, alt-next, open-plain}
+use Rattle.pyhyeon.specs.Tables.{joined, first, opens, firstSimple}
+use Rattle.lookahead.proofs.Tests.{coded, not-first, of-second}
+use Rattle.lookahead.specs.Tokens.{symbolAt}
+use Rattle.joint.proofs.Chain.{called, open-plain}
+use Rattle.joint.proofs.Choices.{starts, or-first, or-next, alt-first, alt-next}
 use Rattle.joint.proofs.Ends.{tok-mark}
 use Rattle.joint.proofs.Loops.{ready-of}
 use Rattle.joint.proofs.Taken.{Taken, taken-ready}
@@ -126,7 +128,7 @@ module _ (t : ℕ) where
       let y = at-symbol-at .symbol-at .ensures in
       let k = at-match .match .keys2 in
       let l = keyword at-symbol-at code.Def refl refl refl k in
-      open-plain refl (λ vs. or-first (l .here) (coded keywords 7 y k refl) (alt-next (l .here) (coded (code.Class ∷ []) 7 y k refl) (alt-first (l .here) (l .seen) (tok-mark (l .here) (l .seen) (one-through _ (x .0) (x .1) vs)))))
+      open-plain refl (λ vs. or-first (l .here) (coded keywords 7 y k refl) (alt-next (l .here) (coded (code.Class ∷ []) 7 y k refl) (starts (coded (code.Def ∷ code.If ∷ code.While ∷ code.For ∷ []) 7 y k refl)) (alt-first (l .here) (l .seen) (tok-mark (l .here) (l .seen) (one-through _ (x .0) (x .1) vs)))))
 
   same-length-3 : lts.Need-same-length-3 (calls t) (rule-line-at t) reads.Post
   same-length-3 c = search needs
@@ -141,7 +143,7 @@ module _ (t : ℕ) where
       let y = at-symbol-at .symbol-at .ensures in
       let k = at-match .match .keys3 in
       let l = keyword at-symbol-at code.If refl refl refl k in
-      open-plain refl (λ vs. or-first (l .here) (coded keywords 1 y k refl) (alt-next (l .here) (coded (code.Class ∷ []) 1 y k refl) (alt-next (l .here) (coded (code.Def ∷ []) 1 y k refl) (alt-first (l .here) (l .seen) (tok-mark (l .here) (l .seen) (one-through _ (x .0) (x .1) vs))))))
+      open-plain refl (λ vs. or-first (l .here) (coded keywords 1 y k refl) (alt-next (l .here) (coded (code.Class ∷ []) 1 y k refl) (starts (coded (code.Def ∷ code.If ∷ code.While ∷ code.For ∷ []) 1 y k refl)) (alt-next (l .here) (coded (code.Def ∷ []) 1 y k refl) (starts (coded (code.If ∷ code.While ∷ code.For ∷ []) 1 y k refl)) (alt-first (l .here) (l .seen) (tok-mark (l .here) (l .seen) (one-through _ (x .0) (x .1) vs))))))
 
   same-length-4 : lts.Need-same-length-4 (calls t) (rule-line-at t) reads.Post
   same-length-4 c = search needs
@@ -156,7 +158,7 @@ module _ (t : ℕ) where
       let y = at-symbol-at .symbol-at .ensures in
       let k = at-match .match .keys4 in
       let l = keyword at-symbol-at code.While refl refl refl k in
-      open-plain refl (λ vs. or-first (l .here) (coded keywords 4 y k refl) (alt-next (l .here) (coded (code.Class ∷ []) 4 y k refl) (alt-next (l .here) (coded (code.Def ∷ []) 4 y k refl) (alt-next (l .here) (coded (code.If ∷ []) 4 y k refl) (alt-first (l .here) (l .seen) (tok-mark (l .here) (l .seen) (one-through _ (x .0) (x .1) vs)))))))
+      open-plain refl (λ vs. or-first (l .here) (coded keywords 4 y k refl) (alt-next (l .here) (coded (code.Class ∷ []) 4 y k refl) (starts (coded (code.Def ∷ code.If ∷ code.While ∷ code.For ∷ []) 4 y k refl)) (alt-next (l .here) (coded (code.Def ∷ []) 4 y k refl) (starts (coded (code.If ∷ code.While ∷ code.For ∷ []) 4 y k refl)) (alt-next (l .here) (coded (code.If ∷ []) 4 y k refl) (starts (coded (code.While ∷ code.For ∷ []) 4 y k refl)) (alt-first (l .here) (l .seen) (tok-mark (l .here) (l .seen) (one-through _ (x .0) (x .1) vs)))))))
 
   same-length-5 : lts.Need-same-length-5 (calls t) (rule-line-at t) reads.Post
   same-length-5 c = search needs
@@ -171,7 +173,7 @@ module _ (t : ℕ) where
       let y = at-symbol-at .symbol-at .ensures in
       let k = at-match .match .keys5 in
       let l = keyword at-symbol-at code.For refl refl refl k in
-      open-plain refl (λ vs. or-first (l .here) (coded keywords 5 y k refl) (alt-next (l .here) (coded (code.Class ∷ []) 5 y k refl) (alt-next (l .here) (coded (code.Def ∷ []) 5 y k refl) (alt-next (l .here) (coded (code.If ∷ []) 5 y k refl) (alt-next (l .here) (coded (code.While ∷ []) 5 y k refl) (tok-mark (l .here) (l .seen) (one-through _ (x .0) (x .1) vs)))))))
+      open-plain refl (λ vs. or-first (l .here) (coded keywords 5 y k refl) (alt-next (l .here) (coded (code.Class ∷ []) 5 y k refl) (starts (coded (code.Def ∷ code.If ∷ code.While ∷ code.For ∷ []) 5 y k refl)) (alt-next (l .here) (coded (code.Def ∷ []) 5 y k refl) (starts (coded (code.If ∷ code.While ∷ code.For ∷ []) 5 y k refl)) (alt-next (l .here) (coded (code.If ∷ []) 5 y k refl) (starts (coded (code.While ∷ code.For ∷ []) 5 y k refl)) (alt-next (l .here) (coded (code.While ∷ []) 5 y k refl) (starts (coded (code.For ∷ []) 5 y k refl)) (tok-mark (l .here) (l .seen) (one-through _ (x .0) (x .1) vs)))))))
 
   same-length-6 : lts.Need-same-length-6 (calls t) (rule-line-at t) reads.Post
   same-length-6 c = search needs
@@ -187,7 +189,7 @@ module _ (t : ℕ) where
       let x = at-symbol-at .symbol-at .ensures in
       let o = at-match .match .rest in
       let a = not-first 12 (code.Def ∷ code.If ∷ code.While ∷ code.For ∷ []) x (o .0 .0 .0 .0 .1) ∙ not-first 7 (code.If ∷ code.While ∷ code.For ∷ []) x (o .0 .0 .0 .1) ∙ not-first 1 (code.While ∷ code.For ∷ []) x (o .0 .0 .1) ∙ not-first 4 (code.For ∷ []) x (o .0 .1) ∙ not-first 5 [] x (o .1) in
-      open-plain refl (λ vs. or-next (r .here) a (at-simples .simples .ensures .comes vs))
+      open-plain refl (λ vs. or-next (r .here) a (starts (of-second keywords firstSimple (symbolAt (at-start .args .src .now) (at-start .args .toks .now) (at-start .args .s .at .0)) a (at-start .pre .1 .1 .seen))) (at-simples .simples .ensures .comes vs))
 
   pub meets : {M : Type 1} → lts.Closed (calls t) (rule-line-at t) reads.Post M
   meets = lts.spec (calls t) (rule-line-at t) reads.Post add-opened past-requires symbol-at-requires rule-class-requires named-requires cond-requires again-requires each-requires simples-requires same-length returns same-length-2 returns-2 same-length-3 returns-3 same-length-4 returns-4 same-length-5 returns-5 same-length-6 returns-6

@@ -101,14 +101,14 @@ module _ (t : ℕ) where
       let at-past = c .before .before .before .before in
       let d = colon (at-past .before) in
       let e = learnt (code.Newline ∷ []) (c .if2 .left) (c .before .is-symbol2 .ensures) (rw (at-past .past .ensures) at (c .before .before .symbol-at2 .ensures)) in
-      rw (at-past .past .ensures) (record { comes = λ vs. tok-then (d .here) (d .seen) (tok-not (d .inside) (d .used) e) }, newest-refused)
+      rw (at-past .past .ensures) (record { comes = λ vs. tok-then (d .here) (d .seen) (tok-not (d .inside) (d .used) e refl) }, newest-refused)
 
   returns-3 : lts.Need-returns-3 (calls t) (suite-at t) reads.Post
   returns-3 c =
       let at-start = c .before .before .before .before .before .before .before in
       let r = at-start .pre .1 .0 in
       let d = learnt (code.Colon ∷ []) (c .if1 .left) (c .before .is-symbol .ensures) (c .before .before .symbol-at .ensures) in
-      (record { comes = λ vs. tok-not (r .here) (r .used) d }, newest-refused)
+      (record { comes = λ vs. tok-not (r .here) (r .used) d refl }, newest-refused)
 
   pub meets : {M : Type 1} → lts.Closed (calls t) (suite-at t) reads.Post M
   meets = lts.spec (calls t) (suite-at t) reads.Post symbol-at-requires is-symbol-requires past-requires symbol-at-requires-2 is-symbol-requires-2 add-u skip-newlines-requires class-body-requires same-length returns returns-2 returns-3

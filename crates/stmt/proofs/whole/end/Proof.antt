@@ -6,6 +6,7 @@ use Rattle.lookahead.proofs.Tests.{learnt}
 use Rattle.joint.proofs.Ends.{act-wrote}
 use Rattle.joint.proofs.Seen.{see-then, see-not}
 use native.Mathlib.Omega.{arith}
+use mathlib.Core.Path.{refl}
 use borrow.Author.Needs.{needs}
 use Rattle.stmt.proofs.whole.end.Statement.{statement}
 use Rattle.stmt.proofs.whole.end.Tie as tie
@@ -42,7 +43,7 @@ returns-2 c =
     let at-start = c .before .before .before .before .before .before .before in
     let r = at-start .pre in
     let e = learnt (code.Eof ∷ []) (c .if1 .left) (c .before .is-symbol .ensures) (c .before .before .symbol-at .ensures) in
-    λ room. record { comes = λ vs. see-not (r .here) (r .used) e }
+    λ room. record { comes = λ vs. see-not (r .here) (r .used) e refl }
 
 pub end-spec : {M : Type 1} → statement M
 end-spec =

@@ -6,7 +6,8 @@ use Rattle.grammar.specs.Descent.{null, begins}
 use Rattle.token.specs.Code as code
 use Rattle.pyhyeon.specs.Tables.{joined, first, firstLine, opens}
 use Rattle.lookahead.proofs.Tests.{learnt}
-use Rattle.joint.proofs.Chain.{open-plain, alt-first, alt-next, flat-then, flat-stop}
+use Rattle.joint.proofs.Chain.{open-plain, flat-then, flat-stop}
+use Rattle.joint.proofs.Choices.{absent, alt-first, alt-next}
 use Rattle.joint.proofs.Ends.{none-then}
 use Rattle.joint.proofs.Loops.{ready-of}
 use Rattle.joint.proofs.Passing.{newlines-pass, run-text}
@@ -109,7 +110,7 @@ returns-3 c =
     let at-skip-newlines = at-if1 .before .before .before in
     let n = at-skip-newlines .skip-newlines .ensures in
     let b = learnt firstLine (at-if1 .if1 .left) (at-if1 .before .begins-line .ensures) (at-if1 .before .before .symbol-at .ensures) in
-    open-plain refl (λ vs. newlines-pass n (alt-next (n .inside) b (none-then (at-end2 .end2 .ensures _ .comes vs))))
+    open-plain refl (λ vs. newlines-pass n (alt-next (n .inside) b (absent refl) (none-then (at-end2 .end2 .ensures _ .comes vs))))
 
 pub rule-program-spec : {M : Type 1} → statement M
 rule-program-spec =
