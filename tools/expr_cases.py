@@ -3,7 +3,8 @@
 
     python3 tools/expr_cases.py crates/expr_cases
 
-Every expected line is made by tools/reference: scan.py, and the method t of descent.py on its tokens. Both were written from documents 01 and 02 alone.
+Every expected line is made by tools/reference: scan.py, the method t of descent.py on its tokens, and cut.py. A refusal is by 13, or by what is handed on:
+16 where only an expression or operand could stand, whatever token does not fit, and 14 for all else. All were written from documents 01 and 02 alone.
 Nothing is taken from what the program prints.
 """
 import os
@@ -12,9 +13,11 @@ import sys
 
 sys.dont_write_bytecode = True
 sys.path.insert(0, os.path.join(os.path.dirname(os.path.abspath(__file__)), "reference"))
+import cut_cases  # noqa: E402
 import float_cases  # noqa: E402
 import generate  # noqa: E402
-from descent import LIMIT, Descent  # noqa: E402
+from cut import wanted  # noqa: E402
+from descent import descent  # noqa: E402
 from scan import Refusal, scan, utf8  # noqa: E402
 from tree import KIND_NAMES  # noqa: E402
 
@@ -56,7 +59,7 @@ a,  a, b  a, b,  a, b, c  a, b, c,  (a), b  a, (b,)  [a], {b}  lambda: a,  lambd
 a b  a, b c  a;  a, ;  a = b  a, b = c  a:  a)  a, )  a\n  a, b\nc  a,\nb  a if b  a.b c  a\n\x20\x20b  a #c  a, #c
 """
 
-# Refusals 14: where an E or what is under it, a name, a colon or a closer must stand and does not.
+# Refusals: where an E or what is under it, a name, a colon or a closer must stand and does not.
 REFUSED = r"""
 )  ]  }  ,  :  ;  .  =  <  *  or  if  return  \n  \x20\x20a
 a or  a or or b  a and  a and ]  a <  a < b <  a < )  a +  a + *  a -  a * *  a //  a / )  a %
@@ -114,6 +117,12 @@ def generated():
         yield generate.damaged(rng, source)
 
 
+def cut():
+    """What a line feed cuts, with number and place by hand: 16 where only an expression or operand could stand."""
+    for number, beginnings in ((16, cut_cases.only_in_t()), (14, cut_cases.also_in_t())):
+        yield from (((text + "\n").encode(), number, len(text)) for text in beginnings)
+
+
 def sources():
     blocks = (LITERALS, FORMS, OPERATORS, COMMAS, REFUSED, NAMES, SCANNER)
     yield b""
@@ -122,6 +131,7 @@ def sources():
     yield from nested()
     yield from generated()
     yield from float_cases.sources(float_cases.EXPRESSIONS)
+    yield from (source for source, _, _ in cut())
 
 
 def is_utf8(source):
@@ -138,17 +148,17 @@ def expected(source):
         tokens, _ = scan(source)
     except Refusal as no:
         return f"no {no.number} {no.place}", ()
-    reader = Descent(tokens, LIMIT)
-    try:
-        reader.t()
-    except Refusal as no:
-        return f"no {no.number} {no.place} {reader.openings}", ()
-    words = [reader.at, len(reader.nodes), reader.openings] + [word for node in reader.nodes for word in node]
-    return " ".join(["ok", *map(str, words)]), [node[0] for node in reader.nodes]
+    done = descent(tokens, part="t")
+    if done.number:
+        return f"no {wanted(tokens, done, 't')} {done.place} {done.openings}", ()
+    words = [done.at, len(done.nodes), done.openings] + [word for node in done.nodes for word in node]
+    return " ".join(["ok", *map(str, words)]), [node[0] for node in done.nodes]
 
 
 def main():
     crate = sys.argv[1]
+    for source, number, place in cut():
+        assert expected(source)[0].startswith(f"no {number} {place} "), source
     kept = [source for source in dict.fromkeys(sources()) if is_utf8(source)]
     assert all(len(source) <= LONGEST_SOURCE for source in kept)
     text = "".join((source.hex() or "-") + "\n" for source in kept)

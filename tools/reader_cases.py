@@ -12,6 +12,7 @@ import sys
 
 import reader_sources as sources
 import check_answers
+import cut_cases
 import name_cases
 from descent import descent
 from read import Answer, areas, read, with_deep_stack
@@ -24,6 +25,7 @@ SMALL = 1023  # sources up to this size are shown word by word
 GUARD_WORD, GUARD_BYTE = 2863311530, 255  # what the slices hold before the call
 TRIED = 10000  # up to this size the trial is run too
 FEWEST = 15  # cases of each number
+UNFIT = (14, 15, 16)  # a token does not fit the grammar
 
 # A slice's length: one short of its area, its area, so many more, or none.
 SHORT, EXACT, EMPTY = "-", "0", "."
@@ -32,7 +34,7 @@ USUAL = ["000", "111", "000", "939"]
 # Each of the sources that EVERY names takes all of these: exact, each one short, several short or empty, longer.
 ALL = ["000", "-00", "0-0", "00-", "---", "0--", "-0-", "--0", "...", "0..", "99.", "9-9", "100", "010", "001", "999"]
 EVERY = [b"", b"a", b"\n", b"'x' + 'y'\n", b"a<b<c\n", b"if a:\n  b\n", b"class A:\n  def f(): 'a'\n", b"\xff", b"a'\xc3'", b"\t", b" ", b"  a\n ", b"'a' !",
-         b"9223372036854775808", b"1.0e24", b"'x' \xe2\x82\xac", b"\xed\x95\x9c = '\xc3\xa9'", b"(" * 65, b"'x' )", b"a-1", b"if a:\n  "]
+         b"9223372036854775808", b"1.0e24", b"'x' \xe2\x82\xac", b"\xed\x95\x9c = '\xc3\xa9'", b"(" * 65, b"'x' )", b"a-1", b"if a:\n  ", b"'x' +", b"'x' +\n"]
 
 
 # 1 to 4 at a smallest n.
@@ -89,12 +91,12 @@ def digest(words):
 
 def written(source, answer):
     """The nodes written, "in a refusal as well, where the answer shows 0 for N"."""
-    return len(descent(scan(source)[0]).nodes) if answer.number in (0, 13, 14) else 0
+    return len(descent(scan(source)[0]).nodes) if answer.number in (0, 13, *UNFIT) else 0
 
 
 def agrees(source, answer, records):
     """The ordered trial accepts exactly what the answer accepts, 13 set aside, and with the same records."""
-    if answer.number in (0, 14) and len(source) <= TRIED:
+    if answer.number in (0, *UNFIT) and len(source) <= TRIED:
         tree = trial(scan(source)[0])
         assert (tree is not None) == (answer.number == 0), source
         assert tree is None or [word for node in tree for word in node] == records, source
@@ -132,6 +134,10 @@ def lists():
     yield "limits", with_marks([source for source, _ in [*sources.nested(), *sources.mixed()]]) + with_marks(sources.longest(), ["000", "999"]) + at_the_limits()
     yield "generated", with_marks([*sources.generated(140, 11), *sources.soups(60, 12)])
     yield "damaged", with_marks(sources.damaged(300, 13))
+    known = {*by_paper, *sources.expressions(), *sources.scripts(sources.SIMPLES), *sources.scripts(sources.BLOCKS), *refused}
+    cut = [source for source in dict.fromkeys(sources.cut()) if source not in known]
+    yield "cut", with_marks(cut)
+    yield "prefixes", with_marks([source for source in dict.fromkeys(sources.prefixes()) if source not in known.union(cut)])
 
 
 def at_the_limits():
@@ -142,8 +148,8 @@ def at_the_limits():
 
 def hold_to_the_paper():
     """What document 01 says itself: number and place of its scripts, the empty script's counts, the tree of `a<b<c` word by word; and what was counted or
-    told by hand from the sentences of 01 and 02: openings and nodes written of 23 scripts, who is accepted, who is too deep, which script has which kind,
-    span, r and s of each Float of the scripts of float_cases."""
+    told by hand from the sentences of 01 and 02: openings and nodes written of some scripts, who is accepted, who is too deep, which script has which kind,
+    span, r and s of each Float of the scripts of float_cases, number and place of those of name_cases and cut_cases."""
     check_answers.scripts_of_01()
     check_answers.counted()
     check_answers.floats()
@@ -151,7 +157,7 @@ def hold_to_the_paper():
         assert expected(source, "000")[0].number == number, source
     for number, (source, marks) in enumerate(SMALLEST_SLICES, 1):
         assert expected(joined(source), marks)[0] == Answer(number, 0, 0, 0, 0, 0)
-    by_hand = [(text.encode(), number, place) for text, number, place in name_cases.BY_HAND]
+    by_hand = [(text.encode(), number, place) for text, number, place in name_cases.BY_HAND] + list(cut_cases.cases())
     for source, number, place in sources.SCRIPTS + sources.SMALLEST + by_hand:
         answer, _, _ = expected(source, "000")
         assert (answer.number, answer.place) == (number, place), source
@@ -189,7 +195,7 @@ def main():
         names.append(name)
         print(f"{name}: {len(lines)} cases, {len(text)} bytes")
     assert kinds == set(range(1, len(KIND_NAMES) + 1)), kinds
-    assert all(numbers.get(number, 0) >= FEWEST for number in range(15) if number != 12) and 12 not in numbers, numbers
+    assert all(numbers.get(number, 0) >= FEWEST for number in range(17) if number != 12) and 12 not in numbers, numbers
     open(f"{crate}/args", "w").write("".join(name + "\n" for name in names))
     open(f"{crate}/stdout", "w").write("".join(stdout))
     print(f"{len(stdout)} cases, {sum(map(len, stdout))} bytes; " + ", ".join(f"{number}: {numbers[number]}" for number in sorted(numbers)))

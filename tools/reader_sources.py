@@ -5,6 +5,7 @@ import sys
 
 sys.dont_write_bytecode = True
 sys.path.insert(0, os.path.join(os.path.dirname(os.path.abspath(__file__)), "reference"))
+import cut_cases  # noqa: E402
 import expr_cases  # noqa: E402
 import float_cases  # noqa: E402
 import generate  # noqa: E402
@@ -13,9 +14,10 @@ import token_cases  # noqa: E402
 
 MOST = 65536  # "n at most 65,536"
 
-# Section "Scripts and their outcome" of document 01, in its order, the starred ones and the others: source, number, place. These three are the paper's own.
+# Section "Scripts and their outcome" of document 01, in its order, the starred ones and the others: source, number, place. These three are the paper's own;
+# of `()` 02 says 15.
 SCRIPTS = [
-    (b"", 0, 0), (b"a-1", 14, 1), (b"-1.5", 14, 3), (b"1.e5", 0, 0), (b"()", 14, 2), (b"())", 0, 0), (b"not a == b", 0, 0), (b"1,", 0, 0),
+    (b"", 0, 0), (b"a-1", 14, 1), (b"-1.5", 14, 3), (b"1.e5", 0, 0), (b"()", 15, 2), (b"())", 0, 0), (b"not a == b", 0, 0), (b"1,", 0, 0),
     (b"if a:\n  b", 14, 9), (b"if a:\n  b\n", 0, 0), (b"if a:\n  ", 0, 0), (b"9223372036854775808", 10, 0), (b"-9223372036854775808", 0, 0),
     (b"\t", 6, 0), (b"if a:\n   b\n", 7, 6), (b"1.0e23", 0, 0), (b"1.0e24", 11, 0), (b"(" * 63 + b"a" + b")" * 63, 0, 0),
     (b"(" * 64 + b"a" + b")" * 64, 13, 64), (b"a<b<c\n", 0, 0),
@@ -26,7 +28,7 @@ SCRIPTS = [
 # Each question at a smallest source: its no in number and place, by the sentence of 01. 1 to 4 are asked of n and the slices: see SMALLEST_SLICES in reader_cases.py.
 SMALLEST = [
     (b"\xff", 5, 0), (b"\t", 6, 0), (b" ", 7, 0), (b"  a\n ", 8, 4), (b"!", 9, 0), (b"9223372036854775808", 10, 0), (b"1.0e24", 11, 0),
-    (b"(" * 65, 13, 64), (b")", 14, 0),
+    (b"(" * 65, 13, 64), (b")", 14, 0), (b"(", 15, 1), (b"-\n", 16, 1),
 ]
 
 # The first of each kind, in the order of the kinds (a Program is in all).
@@ -84,6 +86,27 @@ def floats():
     return float_cases.sources(float_cases.STATEMENTS)
 
 
+# Good scripts that are cut at every byte: written as those above.
+CUT = """
+if a:/__b/elif c:/__d/else:/__e/|class A:/__def f(a, b,):/____a/b/|for a in [b, c,]:/__d; e/f = g/|def f(a, b,):/__return a, b/|if a: 'x'/elif 'y': 'z'/else: 'w'|while not a: b|a, b, = c,
+a < b < c = d|a = b; return c; d|if {a: b}: c|for a in lambda: b: c|if a:/__if b:/____c/__else: d/|class A:/__def f(): a/__def g(): b/|while a:/__break/__continue/
+{a: b, c: d,}|{{a}: {b: {c, d}}}|t{a, b,}|a.b().c[d]|a or b and c < d + e * -f|lambda a, b,: a + b|f(lambda a: a, b)|[[], [a], [[b, c], d]]|()) + a|(a, b)[0]
+"""
+CUT_WIDE = ["\ud55c\uad6d = \xe9(\ufb01, [1.50]) # \u20ac\n", "x = 'a\\n\xe9'\r\n- y // 2.5\n"]
+
+
+def cut():
+    """Scripts that end too soon and what is like them, whose number and place are by hand."""
+    return [source for source, _, _ in cut_cases.cases()]
+
+
+def prefixes():
+    """Every beginning of the good scripts above, alone and with a line feed behind it."""
+    for source in [*scripts(CUT), *(text.encode() for text in CUT_WIDE)]:
+        for end in range(1, len(source)):
+            yield from [source[:end], source[:end] + b"\n"]
+
+
 def scanner():
     """Every fourth of those that scan_cases has by hand, short ones, but the names below."""
     named = set(name_cases.sources())
@@ -98,7 +121,7 @@ ILL_FORMED = [
 
 
 def ill_formed():
-    """5 where a token would start, in a string, in a comment and behind causes of 6 to 14, which are asked later."""
+    """5 where a token would start, in a string, in a comment and behind causes of 6, 9, 11 and 14, which are asked later."""
     for bad in ILL_FORMED:
         yield from [bad, b"'\xc3\xa9" + bad + b"'", b"a #" + bad, b"\t$ 1.0e24 )" + bad + b"\xff"]
 
@@ -109,7 +132,7 @@ def names():
 
 
 def order():
-    """The earliest in the source of 6 to 11, each before and behind the others; then 13 and 14 by the earliest token."""
+    """The earliest in the source of 6 to 11, each before and behind the others; then 13, and 14 to 16, by the earliest token."""
     causes = [b"\n\t", b"\n   a", b"\n  a\n a", b" $", b" 9223372036854775808", b" 1.0e24", b" \xe2\x82\xac", b" )"]
     for first in causes:
         for second in causes:

@@ -1,17 +1,20 @@
 """Checks of the reference: the scripts of documents 01 and 02, and trial against descent.
 
-Run without arguments; it takes a minute or two, prints how many inputs each part
+Run without arguments; it takes about two minutes, prints how many inputs each part
 compared and stops with the input at the first disagreement.
 """
 import itertools
 import random
 import time
 
+import check_cut
 import generate
 from check_answers import counted, floats, names, scripts_of_01, slices, utf8_places
+from cut import told
 from descent import descent
 from read import with_deep_stack
-from scan import Code, Refusal, Token, scan
+from scan import Code, Refusal, scan, utf8
+from token_sorts import SORTS, as_tokens, can_be_finished
 from tree import END, NEXT, NODE_FIELDS, NONE, R, S, START, Kind
 from trial import Trial, trial
 from trial_expressions import Fail
@@ -67,6 +70,7 @@ tally = {}
 def compare(source):
     """A source through the scanner and, where it has tokens, both readings."""
     try:
+        utf8(source)
         tokens, _ = scan(source)
     except Refusal as no:
         number = no.number
@@ -74,7 +78,9 @@ def compare(source):
         # A level changes only before a token that is no Newline, or at the end.
         assert not any(token.code in (Code.Indent, Code.Dedent) and after.code == Code.Newline
                        for token, after in zip(tokens, tokens[1:])), source
-        number = agree(tokens, source).number
+        done = agree(tokens, source)
+        number = told(tokens, done)
+        check_cut.as_the_descent(source, tokens, done, number)
     tally[number] = tally.get(number, 0) + 1
     return number
 
@@ -88,45 +94,6 @@ def short_strings():
             compare(bytes(source))
             cases += 1
     return cases
-
-
-# One token of each sort that the grammar tells apart, Indent and Dedent where they please.
-SORTS = [
-    (Code.If, None), (Code.Elif, None), (Code.Else, None), (Code.For, None), (Code.In, None),
-    (Code.Def, None), (Code.Return, None), (Code.Or, None), (Code.Not, None),
-    (Code.Class, None), (Code.Pass, None), (Code.Lambda, None), (Code.Int, 1),
-    (Code.Identifier, b"a"), (Code.Identifier, b"t"), (Code.Minus, None), (Code.Less, None),
-    (Code.Equal, None), (Code.LParen, None), (Code.RParen, None), (Code.LBracket, None),
-    (Code.RBracket, None), (Code.LBrace, None), (Code.RBrace, None), (Code.Colon, None),
-    (Code.Comma, None), (Code.Semicolon, None), (Code.Dot, None), (Code.Indent, None),
-    (Code.Dedent, None), (Code.Newline, None),
-]
-# What to put after a beginning to finish it soonest, first what fits.
-FINISHERS = [(code, b"a" if code == Code.Identifier else None) for code in (
-    Code.RParen, Code.RBracket, Code.RBrace, Code.Dedent, Code.Indent, Code.Newline, Code.Colon,
-    Code.Identifier, Code.LParen, Code.In, Code.Def)]
-
-
-def as_tokens(sorts):
-    """Each token on one byte of its own."""
-    tokens = [Token(code, at, at + 1, value) for at, (code, value) in enumerate(sorts)]
-    return tokens + [Token(Code.Eof, len(sorts), len(sorts), None)]
-
-
-def can_be_finished(sorts):
-    """Whether some tokens after these make a list that the trial accepts."""
-    for _ in range(30):
-        if trial(as_tokens(sorts)) is not None:
-            return True
-        for finisher in FINISHERS:
-            longer = sorts + (finisher,)
-            done = descent(as_tokens(longer))
-            if done.number == 0 or done.place == len(longer):
-                sorts = longer
-                break
-        else:
-            return False
-    return False
 
 
 def token_lists(length):
@@ -215,6 +182,17 @@ def grammatical_and_damaged():
     return 4000
 
 
+def cut_short():
+    """Short scripts of the grammar cut at every byte, alone and with a line feed behind."""
+    rng = random.Random(5)
+    scripts = (generate.script(rng, 3, 2) for _ in range(1000))
+    cut = {source[:end] for source in scripts if len(source) <= 90 for end in range(len(source))}
+    for source in sorted(cut):
+        compare(source)
+        compare(source + b"\n")
+    return 2 * len(cut)
+
+
 def deep():
     """Around the limit, and far beyond it; 13 stands at the token that would be one too deep."""
     cases = 0
@@ -240,12 +218,16 @@ def main():
         ("UTF-8 places", utf8_places),
         ("names", names),
         ("Floats", floats),
+        ("cut scripts by hand", check_cut.by_hand),
+        ("what begins E and F, by the trial", check_cut.begins),
+        ("what could stand, by the trial", check_cut.by_trial),
         ("short strings", short_strings),
         ("token lists", lambda: token_lists(4)),
         ("walks", walks),
         ("remembering", remembering),
         ("soups", soups),
         ("grammatical and damaged scripts", grammatical_and_damaged),
+        ("scripts cut at every byte", cut_short),
         ("deep nesting", deep),
     ]
     for name, part in parts:

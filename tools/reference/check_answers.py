@@ -63,7 +63,7 @@ def scripts_of_01():
     refused(b"a-1", 14, 1)
     refused(b"-1.5", 14, 3)
     accepted(b"1.e5", Kind.Attribute)
-    refused(b"()", 14, 2)
+    refused(b"()", 15, 2)  # 14 in 01; "so `()` answers the first of these at 2" (02)
     records = accepted(b"())", Kind.Tuple)
     assert records[first_expression(records)][P] == NONE
     records = accepted(b"not a == b", Kind.Binary)
@@ -102,34 +102,55 @@ def scripts_of_01():
 COUNTED = [
     (b"a", 0, 0, 11, 3),
     (b"a b", 14, 2, 11, 2),
-    (b"(", 14, 1, 11, 0),
-    (b"not", 14, 3, 10, 0),
-    (b"a or", 14, 4, 11, 1),
+    (b"(", 15, 1, 11, 0),
+    (b"(\n", 14, 1, 11, 0),
+    (b"not", 15, 3, 10, 0),
+    (b"not\n", 16, 3, 10, 0),
+    (b"a or", 15, 4, 11, 1),
+    (b"a or\n", 16, 4, 11, 1),
     (b"a + b * )", 14, 8, 14, 2),
-    (b"a < b <", 14, 7, 15, 3),
+    (b"a < b <", 15, 7, 15, 3),
+    (b"a < b <\n", 16, 7, 15, 3),
     (b"a, b )", 14, 5, 19, 4),
     (b"a, )", 14, 3, 11, 2),
     (b"a, b = )", 14, 7, 19, 3),
+    (b"a, b =\n", 16, 6, 19, 3),
+    (b"x =", 15, 3, 11, 1),
+    (b"x =\n", 16, 3, 11, 1),
+    (b"if a:\n  x =", 16, 11, 21, 2),
+    (b"if a:\n  if b:", 14, 13, 21, 2),
+    (b"return\n", 16, 6, 3, 0),
+    (b"while\n", 16, 5, 2, 0),
+    (b"for a in\n", 16, 8, 2, 0),
     (b"lambda a b", 14, 9, 4, 1),
-    (b"lambda", 14, 6, 4, 0),
-    (b"if a: b\nelif", 14, 12, 20, 3),
+    (b"lambda", 15, 6, 4, 0),
+    (b"lambda\n", 14, 6, 4, 0),
+    (b"lambda a:\n", 16, 9, 4, 1),
+    (b"x[\n", 16, 2, 11, 1),
+    (b"f(\n", 14, 2, 11, 1),
+    (b"if a: b\nelif", 15, 12, 20, 3),
+    (b"if a: b\nelif\n", 16, 12, 20, 3),
     (b"if a: b\n)", 14, 8, 20, 4),
-    (b"class", 14, 5, 3, 0),
+    (b"class", 15, 5, 3, 0),
+    (b"class A:\n", 15, 9, 3, 0),
     (b"class A:\n  def f(): a\n)", 14, 22, 13, 4),
     (b"class A:\n  def f(): a\n\n", 14, 22, 13, 3),
-    (b"def f", 14, 5, 2, 0),
-    (b"t{", 14, 2, 11, 0),
-    (b"f(())", 14, 5, 19, 2),
+    (b"def f", 15, 5, 2, 0),
+    (b"t{", 15, 2, 11, 0),
+    (b"f(())", 15, 5, 19, 2),
     (b"{a: b, c}", 14, 8, 35, 4),
+    (b"{a: b, c:\n", 16, 9, 35, 4),
     (b"(" * 64 + b"a", 13, 64, 3 + 64 * 8, 0),
     (b"(" * 64 + b"]", 14, 64, 3 + 64 * 8, 0),
+    (b"f[" * 64 + b"\n", 16, 128, 3 + 64 * 8, 64),
 ]
 
 
 def counted():
     for source, *expected in COUNTED:
-        done = descent(scan(source)[0])
-        assert [*done[:3], len(done.nodes)] == expected, (source, done)
+        given, _ = answer(source)
+        nodes = descent(scan(source)[0]).nodes
+        assert [given.number, given.place, given.openings, len(nodes)] == expected, (source, given)
     return len(COUNTED)
 
 

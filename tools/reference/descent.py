@@ -11,17 +11,21 @@ from tree import NONE, Kind
 LIMIT = 64
 
 # "Program hands back its openings and its nodes written, in a refusal as well".
-# number and place are 0 where it accepts; nodes are all records written.
-Descended = namedtuple("Descended", "number place openings nodes")
+# number and place are 0 where it accepts; nodes are all records written; at is the number of
+# the token that was refused, or of the first that was not taken.
+Descended = namedtuple("Descended", "number place openings nodes at")
 
 
-def descent(tokens, limit=LIMIT):
+def descent(tokens, limit=LIMIT, part="Program"):
+    """What the descent hands back for Program, or for another part from the first token on.
+    15 and 16 are told from 14 in cut.py."""
     taken = Descent(tokens, limit)
+    number = place = 0
     try:
-        taken.Program()
+        getattr(taken, part)()
     except Refusal as no:
-        return Descended(no.number, no.place, taken.openings, taken.nodes)
-    return Descended(0, 0, taken.openings, taken.nodes)
+        number, place = no.number, no.place
+    return Descended(number, place, taken.openings, taken.nodes, taken.at)
 
 
 class Descent(ExpressionRules):

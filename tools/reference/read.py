@@ -1,4 +1,4 @@
-"""The reader of document 01, with changes 1 and 3 of document 02: the questions, the answer,
+"""The reader of document 01, with changes 1, 3 and 4 of document 02: the questions, the answer,
 the areas, the program.
 
 Run as a program it reads a script from standard input and prints its tree, or `no`,
@@ -8,6 +8,7 @@ import sys
 import threading
 from collections import namedtuple
 
+from cut import told
 from descent import descent
 from scan import Refusal, scan, utf8
 from tree import VERSION, show_record
@@ -15,6 +16,8 @@ from tree import VERSION, show_record
 # "An answer holds number, place, T, N, text bytes, openings; acceptance has number 0
 # and place 0."
 Answer = namedtuple("Answer", "number place tokens nodes text openings")
+
+LONGEST = 65536
 
 
 def areas(n):
@@ -29,7 +32,7 @@ def read(source, token_slice, text_slice, tree_slice):
     slices = token_slice, text_slice, tree_slice
     # "1. n at most 65,536? 2. Token slice holds its area? 3. Text slice? 4. Tree slice?
     # No: that number, place 0."
-    if n > 65536:
+    if n > LONGEST:
         return Answer(1, 0, 0, 0, 0, 0)
     for number, (lent, size) in enumerate(zip(slices, areas(n)), 2):
         if len(lent) < size:
@@ -39,8 +42,8 @@ def read(source, token_slice, text_slice, tree_slice):
         utf8(source)
     except Refusal as no:
         return Answer(no.number, no.place, 0, 0, 0, 0)
-    # "6 to 14 zero the areas." "Acceptance zeroes what it doesn't fill; words beyond an
-    # area stay."
+    # "6 to 14 zero the areas.", and 15 and 16, which were 14 before. "Acceptance zeroes what it
+    # doesn't fill; words beyond an area stay."
     for lent, size in zip(slices, areas(n)):
         for at in range(size):
             lent[at] = 0
@@ -50,9 +53,10 @@ def read(source, token_slice, text_slice, tree_slice):
         return Answer(no.number, no.place, 0, 0, 0, 0)
     done = descent(tokens)
     count = len(tokens) - 1
-    # "Counts are 0, but 13 and 14 give T and openings."
+    # "Counts are 0, but 13 and 14 give T and openings."; 15 and 16 too, "with T and openings as
+    # there" (02).
     if done.number:
-        return Answer(done.number, done.place, count, 0, 0, done.openings)
+        return Answer(told(tokens, done), done.place, count, 0, 0, done.openings)
     fill(token_slice, [word for token in tokens for word in token[:3]])
     fill(text_slice, text)
     fill(tree_slice, header(done, count, len(text), n)
