@@ -5,9 +5,7 @@ cd "$(dirname "$0")/.."
 out=$PWD/target/wrong
 
 build() {
-    rustc --edition 2021 -O -A warnings -C metadata=wrong --crate-type rlib --crate-name plain "$out/src/lib.rs" -o "$out/libplain.rlib"
-    rustc --edition 2021 -O -C panic=abort --crate-type staticlib --crate-name ffi --extern plain="$out/libplain.rlib" \
-        "$out/wrong/library.rs" -o "$out/libffi.a"
+    compare/plain.sh "$out" "$out"
     STATICLIB=$out cargo build --offline --release --quiet --manifest-path compare/Cargo.toml --target-dir "$out/target"
 }
 
@@ -53,6 +51,17 @@ wrong "a Float's r and s widened by the assignment" descent/statement.rs \
 wrong "the places of the token before a Float" descent/expression.rs \
     's/ExprKind::Float(.*Span { start, end: token.end })/{ let before = self.tokens[self.at.max(2) - 2]; ExprKind::Float(f64::from_bits(token.value), Span { start: before.start, end: before.end }) }/'
 wrong "the header's version 1" words.rs 's/VERSION: u32 = 2/VERSION: u32 = 1/'
+wrong "15 for a Dedent at the end" cut.rs 's/Kind::Eof => 15/Kind::Eof | Kind::Dedent if tokens[at].start as usize == src.len() => 15/'
+wrong "14 for the end behind a line feed" cut.rs 's/Kind::Eof =>/Kind::Eof if tokens[at - 1].kind != Kind::Newline =>/'
+wrong "16 where a closer fits too" cut.rs 's/&& !every.*//'
+wrong "16 for a Comma" cut.rs 's/Kind::Newline | Kind::Dedent if/Kind::Comma | &/'
+wrong "no 16 for a Dedent" cut.rs 's/Kind::Newline | Kind::Dedent if/Kind::Newline if/'
+wrong "no 16 behind while" cut.rs 's/if only_expression/if tokens[at - 1].kind != Kind::While \&\& only_expression/'
+wrong "no 16 in an index" cut.rs 's/if only_expression/if tokens[at - 1].kind != Kind::LBracket \&\& only_expression/'
+wrong "no 16 where a lambda does not fit" cut.rs 's/begins_factor(token.kind)/begins_expression(token.kind)/'
+wrong "no 16 where 64 are open" cut.rs 's/u32::MAX/64/'
+wrong "no openings with 15 and 16" lib.rs 's/Err(Answer { number, tokens/let openings = if number > 14 { 0 } else { openings }; &/'
+wrong "areas left by 16" lib.rs 's/if matches!(parsed, Err(Answer { number: 5,/if matches!(parsed, Err(Answer { number: 5 | 16,/'
 wrong "the tree not zeroed" lib.rs 's/ tree.fill(0);//'
 wrong "areas zeroed by 5" lib.rs 's/if matches!(parsed, Err(Answer { number: 5, .. }))/if false/'
 wrong "a word written behind the tokens" lib.rs 's/ tokens.fill(0);/& unsafe { *tokens.as_mut_ptr().add(token_area) = 5; }/'

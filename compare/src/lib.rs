@@ -3,9 +3,10 @@
 //!
 //! `parse` reads a script to a tree; `layout` puts the tree into words; `read` asks the questions 1 to 14, without 12 (gone by
 //! 02's change 1), and fills the three areas. The descent and the ordered trial are two readings of the same tokens with no
-//! code in common. `utf8` is the check that 02's change 2 asks for.
+//! code in common. `utf8` is the check that 02's change 2 asks for, `cut` tells 15 and 16 of change 4 from 14.
 
 pub mod classes;
+pub mod cut;
 pub mod descent;
 pub mod layout;
 pub mod literal;
@@ -77,15 +78,18 @@ pub fn parse(src: &[u8]) -> Result<Script, Answer> {
         Err(error) => return Err(Answer::refused(Refused { number: 5, place: error.valid_up_to() as u32 })),
     };
     let tokens = scan::scan(text).map_err(Answer::refused)?;
-    let descent::Descended { openings, written, program } = descent::descend(src, &tokens);
+    let descent::Descended { openings, written, taken, program } = descent::descend(src, &tokens);
     match program {
         Ok(program) => Ok(Script { tokens, program, openings, written }),
-        Err(refused) => Err(Answer { tokens: tokens.len() as u32 - 1, openings, ..Answer::refused(refused) }),
+        Err(refused) => {
+            let number = if refused.number == 14 { cut::number(src, &tokens, taken) } else { refused.number };
+            Err(Answer { number, tokens: tokens.len() as u32 - 1, openings, ..Answer::refused(refused) })
+        }
     }
 }
 
 /// Asks the questions 1 to 14 in order, without 12, and fills the areas, the first words and bytes of the slices. 1 to 5 leave
-/// all slices untouched, 6 to 14 zero the areas, acceptance zeroes what it doesn't fill.
+/// all slices untouched, 6 to 16 zero the areas, acceptance zeroes what it doesn't fill.
 pub fn read(src: &[u8], tokens: &mut [u32], text: &mut [u8], tree: &mut [u32]) -> Answer {
     let n = src.len();
     let (token_area, text_area, tree_area) = areas(n);

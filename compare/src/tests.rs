@@ -1,4 +1,6 @@
-//! 01's "Scripts and their outcome", 02's names and Floats, read both ways; the classes of characters.
+//! 01's "Scripts and their outcome", 02's names, Floats and cut scripts, read both ways; the classes of characters.
+
+mod cut;
 
 use crate::classes::{BEGIN, CONTINUE};
 use crate::name::{begins, continues, within};
@@ -10,7 +12,7 @@ use crate::{parse, print, scan, Answer};
 
 fn refusal(src: &str) -> (u32, u32) {
     let answer = parse(src.as_bytes()).err().expect("refused");
-    if answer.number == 14 {
+    if answer.number >= 14 {
         let tokens = scan::scan(src).unwrap();
         assert!(matches!(try_program(src.as_bytes(), &tokens, 1 << 30), Verdict::Refused), "{src:?}");
     }
@@ -36,7 +38,7 @@ fn refused_scripts() {
     let cases = [
         ("a-1", 14, 1),
         ("-1.5", 14, 3),
-        ("()", 14, 2),
+        ("()", 15, 2),
         ("if a:\n  b", 14, 9),
         ("9223372036854775808", 10, 0),
         ("\t", 6, 0),
@@ -76,7 +78,7 @@ fn areas_and_printing() {
     let answer = crate::read(b"", &mut [9; 3], &mut [], &mut tree);
     assert_eq!(answer, Answer { nodes: 1, openings: 1, ..Answer::default() });
     assert_eq!(tree, [2, 1, 0, 0, 8, 0, 1, 0, 1, 0, 0, crate::words::NONE, crate::words::NONE, 0, 0, 0, 7]);
-    assert_eq!(print(b"()"), "no 14 2\n");
+    assert_eq!(print(b"()"), "no 15 2\n");
     assert_eq!(print(&[b' '; 1024]), "no 1 0\n");
     let chain = "2 8 6 0 8 7 19 6\n0 23 0 1 - 0 1 0 0\n1 23 2 3 - 2 3 0 0\n2 25 0 3 - 9 0 1 0\n3 23 4 5 - 4 5 0 0\n\
                  4 25 2 5 - 9 1 3 0\n5 25 0 5 - 13 2 4 0\n6 12 0 5 - 5 0 0 0\n7 1 0 6 - 6 0 0 0\n";

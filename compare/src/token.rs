@@ -1,57 +1,25 @@
 //! Tokens. A token's code is its position in the Rust's `Token`, from If = 1 to Eof = 49.
 
-#[derive(Clone, Copy, Debug, PartialEq, Eq)]
-#[repr(u8)]
-pub enum Kind {
-    If = 1,
-    Elif,
-    Else,
-    While,
-    For,
-    In,
-    Def,
-    Return,
-    And,
-    Or,
-    Not,
-    Class,
-    Break,
-    Continue,
-    Pass,
-    Lambda,
-    None,
-    Bool,
-    Int,
-    Str,
-    Name,
-    Float,
-    Plus,
-    Minus,
-    Star,
-    SlashSlash,
-    Slash,
-    Percent,
-    EqualEqual,
-    NotEqual,
-    Less,
-    LessEqual,
-    Greater,
-    GreaterEqual,
-    Equal,
-    LParen,
-    RParen,
-    LBracket,
-    RBracket,
-    LBrace,
-    RBrace,
-    Colon,
-    Comma,
-    Semicolon,
-    Dot,
-    Indent,
-    Dedent,
-    Newline,
-    Eof,
+/// The kinds in their order, and a list of them all.
+macro_rules! kinds {
+    ($first:ident $($other:ident)*) => {
+        #[derive(Clone, Copy, Debug, PartialEq, Eq)]
+        #[repr(u8)]
+        pub enum Kind {
+            $first = 1,
+            $($other),*
+        }
+
+        impl Kind {
+            pub const ALL: &'static [Kind] = &[Kind::$first, $(Kind::$other),*];
+        }
+    };
+}
+
+kinds! {
+    If Elif Else While For In Def Return And Or Not Class Break Continue Pass Lambda None Bool Int Str Name
+    Float Plus Minus Star SlashSlash Slash Percent EqualEqual NotEqual Less LessEqual Greater GreaterEqual
+    Equal LParen RParen LBracket RBracket LBrace RBrace Colon Comma Semicolon Dot Indent Dedent Newline Eof
 }
 
 /// A token with its bytes' places. `value` is a Bool's 0 or 1 and the 64 bits of an Int or a Float; 0 for any other.

@@ -6,7 +6,7 @@ use crate::token::Kind;
 use crate::tree::{BinaryOp, Expr, ExprKind, Span, UnaryOp};
 
 /// What can begin F.
-fn begins_factor(kind: Kind) -> bool {
+pub fn begins_factor(kind: Kind) -> bool {
     matches!(
         kind,
         Kind::None | Kind::Bool | Kind::Int | Kind::Str | Kind::Name | Kind::Float | Kind::LParen | Kind::LBracket | Kind::LBrace
@@ -19,7 +19,7 @@ fn begins_operation(kind: Kind) -> bool {
 }
 
 /// What can begin E.
-pub(super) fn begins_expression(kind: Kind) -> bool {
+pub fn begins_expression(kind: Kind) -> bool {
     begins_operation(kind) || kind == Kind::Lambda
 }
 

@@ -1,6 +1,6 @@
 //! The predictive reading: a rule is opened only on a token that can begin it, and the next token decides. Refusals 13 and 14.
 
-mod expression;
+pub mod expression;
 mod statement;
 
 use crate::token::{Kind, Token};
@@ -10,23 +10,30 @@ use crate::Refused;
 /// At most so many E and Block are open at once.
 const DEPTH: u32 = 64;
 
-/// What the descent hands back, in a refusal as well: its openings and its nodes written.
+/// What the descent hands back, in a refusal as well: its openings, its nodes written, and how many tokens it took.
 pub struct Descended {
     pub openings: u32,
     pub written: u32,
+    pub taken: usize,
     pub program: Result<Vec<Stmt>, Refused>,
 }
 
 /// Reads `tokens`, the scanner's for `src`.
 pub fn descend(src: &[u8], tokens: &[Token]) -> Descended {
-    let mut reader = Descent { src, tokens, at: 0, depth: 0, openings: 0, written: 0 };
+    descend_to(DEPTH, src, tokens)
+}
+
+/// The same, with at most `limit` E and Block open at once.
+pub fn descend_to(limit: u32, src: &[u8], tokens: &[Token]) -> Descended {
+    let mut reader = Descent { src, tokens, limit, at: 0, depth: 0, openings: 0, written: 0 };
     let program = reader.program();
-    Descended { openings: reader.openings, written: reader.written, program }
+    Descended { openings: reader.openings, written: reader.written, taken: reader.at, program }
 }
 
 struct Descent<'a> {
     src: &'a [u8],
     tokens: &'a [Token],
+    limit: u32,
     at: usize,
     depth: u32,
     openings: u32,
@@ -87,7 +94,7 @@ impl Descent<'_> {
 
     /// Opens E or Block: these count towards the depth too, and an opening that 13 refuses isn't counted.
     fn open_deeper(&mut self, begins: impl Fn(Kind) -> bool) -> Read<()> {
-        if self.depth == DEPTH && begins(self.kind()) {
+        if self.depth == self.limit && begins(self.kind()) {
             return Err(self.refused(13));
         }
         self.open(begins)?;

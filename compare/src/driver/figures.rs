@@ -10,7 +10,7 @@ struct Row {
     bytes: u64,
     /// Those with no character beyond ASCII.
     ascii: u64,
-    numbers: [u64; 15],
+    numbers: [u64; 17],
     /// Those accepted that have a name with a character beyond ASCII.
     named: u64,
     /// Those accepted that have a Float in parentheses, and those that have one as a target.
@@ -22,6 +22,26 @@ struct Row {
     alike: u64,
     spent: u64,
 }
+
+/// The table's columns: name, width, and what is counted.
+type Column = (&'static str, usize, fn(&Row) -> u64);
+
+const COLUMNS: [Column; 14] = [
+    ("inputs", 10, |row| row.inputs),
+    ("bytes", 12, |row| row.bytes),
+    ("ASCII", 10, |row| row.ascii),
+    ("accepted", 10, |row| row.numbers[0]),
+    ("named", 10, |row| row.named),
+    ("(Float)", 9, |row| row.grouped),
+    ("Float=", 9, |row| row.targets),
+    ("1-11", 10, |row| row.numbers[1..=11].iter().sum()),
+    ("9 wide", 10, |row| row.stray),
+    ("13", 10, |row| row.numbers[13]),
+    ("14", 9, |row| row.numbers[14]),
+    ("15", 9, |row| row.numbers[15]),
+    ("16", 9, |row| row.numbers[16]),
+    ("-", 7, |row| row.unanswered),
+];
 
 /// Texts on which the checks of UTF-8 were compared.
 #[derive(Default)]
@@ -105,27 +125,10 @@ impl Figures {
     }
 
     pub fn print(&self, seconds: f64, differences: u32) {
-        println!(
-            "{:<12} {:>10} {:>12} {:>10} {:>10} {:>10} {:>9} {:>9} {:>10} {:>10} {:>10} {:>9} {:>7}",
-            "class", "inputs", "bytes", "ASCII", "accepted", "named", "(Float)", "Float=", "1-11", "9 wide", "13", "14", "-"
-        );
         let total = self.total();
+        println!("{:<12} {}", "class", COLUMNS.map(|(name, width, _)| format!("{name:>width$}")).join(" "));
         for (name, row) in CLASSES.iter().map(|class| class.name).zip(&self.rows).chain([("all", &total)]) {
-            let lexical: u64 = row.numbers[1..=11].iter().sum();
-            println!(
-                "{name:<12} {:>10} {:>12} {:>10} {:>10} {:>10} {:>9} {:>9} {lexical:>10} {:>10} {:>10} {:>9} {:>7}",
-                row.inputs,
-                row.bytes,
-                row.ascii,
-                row.numbers[0],
-                row.named,
-                row.grouped,
-                row.targets,
-                row.stray,
-                row.numbers[13],
-                row.numbers[14],
-                row.unanswered
-            );
+            println!("{name:<12} {}", COLUMNS.map(|(_, width, count)| format!("{:>width$}", count(row))).join(" "));
         }
         println!("ASCII only: {}", total.ascii);
         println!("accepted {}, with a name beyond ASCII: {}", total.numbers[0], total.named);

@@ -236,9 +236,9 @@ impl Sides {
         }
     }
 
-    /// The ordered trial is set beside the descent where that has read the tokens to an end or to a 14.
+    /// The ordered trial is set beside the descent where that has read the tokens to an end or to one that does not fit.
     fn try_too(&self, src: &[u8], answer: Answer) -> Result<Tried, Difference> {
-        if answer.number != 0 && answer.number != 14 {
+        if !matches!(answer.number, 0 | 14..=16) {
             return Ok(Tried::SetAside);
         }
         let Some(Ok(tokens)) = std::str::from_utf8(src).ok().map(plain::scan::scan) else {
@@ -247,10 +247,10 @@ impl Sides {
         let fuel = 50_000 + 400 * tokens.len() as u64;
         match (try_program(src, &tokens, fuel), answer.number) {
             (Verdict::Spent, _) => Ok(Tried::Spent),
-            (Verdict::Refused, 14) => Ok(Tried::Alike),
-            (Verdict::Refused, _) => differ("the trial refuses"),
-            (Verdict::Accepted { .. }, 14) => differ("the trial accepts"),
-            (Verdict::Accepted { nodes, text }, _) => self.same_tree(&nodes, &text, answer),
+            (Verdict::Refused, 0) => differ("the trial refuses"),
+            (Verdict::Refused, _) => Ok(Tried::Alike),
+            (Verdict::Accepted { nodes, text }, 0) => self.same_tree(&nodes, &text, answer),
+            (Verdict::Accepted { .. }, _) => differ("the trial accepts"),
         }
     }
 

@@ -1,5 +1,6 @@
 //! The inputs: four classes whole, then the others in turn by their weight.
 
+mod cut;
 mod damage;
 mod deep;
 mod expression;
@@ -23,7 +24,7 @@ fn enumerated(_: &mut Random) -> Vec<u8> {
     unreachable!("its weight is 0")
 }
 
-pub const CLASSES: [Class; 14] = [
+pub const CLASSES: [Class; 15] = [
     Class { name: "bytes to 3", weight: 0, make: enumerated },
     Class { name: "pieces to 4", weight: 0, make: enumerated },
     Class { name: "letters to 3", weight: 0, make: enumerated },
@@ -36,6 +37,7 @@ pub const CLASSES: [Class; 14] = [
     Class { name: "names", weight: 2500, make: wide::names },
     Class { name: "scripts", weight: 2500, make: script::script },
     Class { name: "damaged", weight: 4000, make: damage::damaged },
+    Class { name: "cut", weight: 4000, make: cut::cut },
     Class { name: "nested", weight: 1000, make: deep::nested },
     Class { name: "limits", weight: 2, make: limits::long },
 ];

@@ -5,9 +5,18 @@ use crate::random::Random;
 
 /// A script that is accepted, but for the rare one that nests too deep or ends in an open line.
 pub fn script(random: &mut Random) -> Vec<u8> {
-    let lines = random.between(1, 6);
+    of_size(random, 6, 120)
+}
+
+/// A script of a line or two.
+pub fn short(random: &mut Random) -> Vec<u8> {
+    of_size(random, 2, 24)
+}
+
+fn of_size(random: &mut Random, most_lines: usize, most_budget: usize) -> Vec<u8> {
+    let lines = random.between(1, most_lines);
     let wide = random.once_in(8);
-    let mut writer = Writer { budget: random.between(4, 120), random, out: Vec::new(), level: 0, wide };
+    let mut writer = Writer { budget: random.between(4, most_budget), random, out: Vec::new(), level: 0, wide };
     for _ in 0..lines {
         writer.blank_lines();
         writer.line();
