@@ -28,6 +28,10 @@ printf -- '-1.5' >"$scripts/dot"
 printf '1.e5' >"$scripts/attribute"
 printf '()' >"$scripts/parentheses"
 printf '())' >"$scripts/tuple"
+printf 'x =' >"$scripts/cut"
+printf 'x =\n' >"$scripts/missing"
+printf 'class A:\n' >"$scripts/cut_class"
+printf 'if a:\n  x =' >"$scripts/missing_in_block"
 printf 'if a:\n  b' >"$scripts/no_newline"
 printf 'if a:\n  b\nelif c:\n  d\nelse:\n  e\n' >"$scripts/branches"
 printf 'if a:\n  ' >"$scripts/spaces_only"
@@ -72,8 +76,10 @@ for script in "$scripts"/*; do
     esac
     count=$((count + 1))
 done
-# 0.1's bits, and as it is written: the node's span has parentheses in the one, and is the whole Assign's in the other
-for line in 'spelling:0 Float 0 6 3fb999999999999a 0\.10' 'spelled_target:0 Float 0 10 3fb999999999999a 0\.10'; do
+# 0.1's bits, and as it is written: the node's span has parentheses in the one, and is the whole Assign's in the other; a token that does not fit, a script
+# that ends too early, and a line or block that lacks an expression at its end
+for line in 'spelling:0 Float 0 6 3fb999999999999a 0\.10' 'spelled_target:0 Float 0 10 3fb999999999999a 0\.10' \
+    'signed:no 14 1' 'parentheses:no 15 2' 'cut:no 15 3' 'cut_class:no 15 9' 'missing:no 16 3' 'missing_in_block:no 16 11'; do
     grep -qx " *${line#*:}" "$work/${line%%:*}.walk_c" || { echo "${line%%:*}: no line ${line#*:}" >&2 && exit 1; }
 done
 # with a header of another version than the library's the walk prints no tree

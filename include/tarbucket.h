@@ -37,7 +37,7 @@ extern "C" {
 
 /* The words of an answer. */
 enum {
-    TARBUCKET_ANSWER_NUMBER = 0,   /* 0: accepted; 1 to 14, but never 12: the refusal, see below */
+    TARBUCKET_ANSWER_NUMBER = 0,   /* 0: accepted; 1 to 16, but never 12: the refusal, see below */
     TARBUCKET_ANSWER_PLACE = 1,    /* the byte where it is refused; 0 where it is accepted */
     TARBUCKET_ANSWER_TOKENS = 2,   /* T, the tokens without Eof; 0 in refusals 1 to 11 */
     TARBUCKET_ANSWER_NODES = 3,    /* N, the nodes of the tree; 0 in a refusal */
@@ -46,7 +46,7 @@ enum {
     TARBUCKET_ANSWER_WORDS = 6
 };
 
-/* The numbers. The first question that is answered by no decides. */
+/* The numbers. The first question that is answered by no decides; 14 to 16 are one question, does each token fit the grammar, and the token tells which. */
 enum {
     TARBUCKET_ACCEPTED = 0,
     TARBUCKET_TOO_LONG = 1,         /* more than 65,536 bytes; place 0 */
@@ -62,7 +62,9 @@ enum {
     TARBUCKET_FLOAT_RANGE = 11,     /* a Float that is not admitted, at its start */
     TARBUCKET_NOT_ASCII = 12,       /* never given, since names are in any script; kept so that older programs compile, and the number stays reserved */
     TARBUCKET_TOO_DEEP = 13,        /* more than 64 expressions and blocks open at once, at the token */
-    TARBUCKET_MISFIT = 14           /* a token that does not fit the grammar, at its start; Eof is at n */
+    TARBUCKET_MISFIT = 14,          /* a token that does not fit, at its start; those of 15 and 16 aside */
+    TARBUCKET_CUT = 15,             /* the script ends too early: Eof does not fit, at n */
+    TARBUCKET_MISSING = 16          /* an expression or operand is missing at the end of a line or block, at the start of its Newline or Dedent */
 };
 
 /* A token has three words in `tokens`: code, start, end (bytes of the source). Token t stands at word 3 t; token T is Eof. */
@@ -238,7 +240,7 @@ enum {
  *
  * Each length counts the elements behind its pointer. No pointer may be null, also where its length is 0; the slices must not overlap.
  * Accepted: `tokens`, `text` and `tree` hold T + 1 tokens, the decoded strings in the order of their tokens, and the header with N nodes; the rest of
- * each area is 0. Refused by 1 to 5: the three are as they were. Refused by 6 to 14: the three areas are 0. Words behind an area, and words of `answer`
+ * each area is 0. Refused by 1 to 5: the three are as they were. Refused by 6 to 16: the three areas are 0. Words behind an area, and words of `answer`
  * behind the sixth, are as they were. Where `answer_len` is below 6, nothing is written anywhere and TARBUCKET_NO_ANSWER is returned.
  * It needs at most TARBUCKET_STACK_BYTES of stack: think of it where a thread is given a small one. */
 uint32_t tarbucket_parse_source(const uint8_t *src, size_t src_len, uint32_t *tokens, size_t tokens_len,

@@ -1,7 +1,7 @@
 use std::fmt;
 
-/// Why a source is refused. Each case has a number, from 1 to 14, and all from 5 on a place: the byte of the source where it is refused. The number 12 is
-/// reserved, and no source gets it.
+/// Why a source is refused. Each case has a number, from 1 to 16, and all from 5 on a place: the byte of the source where it is refused. The number 12 is
+/// reserved, and no source gets it. A token that does not fit the grammar is one of three cases: [`Error::Misfit`], [`Error::Cut`] and [`Error::Missing`].
 #[derive(Clone, Copy, Debug, PartialEq, Eq)]
 #[non_exhaustive]
 pub enum Error {
@@ -29,8 +29,12 @@ pub enum Error {
     FloatRange { place: u32 },
     /// 13: more than 64 expressions and blocks open at once; with T and the rules opened till then.
     TooDeep { place: u32, tokens: u32, openings: u32 },
-    /// 14: a token that does not fit the grammar; with T and the rules opened till then.
+    /// 14: a token that does not fit the grammar, at its start; with T and the rules opened till then.
     Misfit { place: u32, tokens: u32, openings: u32 },
+    /// 15: the source ends too early, at its end; with T and the rules opened till then.
+    Cut { place: u32, tokens: u32, openings: u32 },
+    /// 16: an expression or operand is missing where a line or block ends; with T and the rules opened till then.
+    Missing { place: u32, tokens: u32, openings: u32 },
     /// A number that this version does not know, 12 among them.
     Unknown { number: u32, place: u32 },
 }
@@ -51,6 +55,8 @@ impl Error {
             11 => Error::FloatRange { place },
             13 => Error::TooDeep { place, tokens, openings },
             14 => Error::Misfit { place, tokens, openings },
+            15 => Error::Cut { place, tokens, openings },
+            16 => Error::Missing { place, tokens, openings },
             _ => Error::Unknown { number, place },
         }
     }
@@ -70,6 +76,8 @@ impl Error {
             Error::FloatRange { .. } => 11,
             Error::TooDeep { .. } => 13,
             Error::Misfit { .. } => 14,
+            Error::Cut { .. } => 15,
+            Error::Missing { .. } => 16,
             Error::Unknown { number, .. } => number,
         }
     }
@@ -87,6 +95,8 @@ impl Error {
             | Error::FloatRange { place }
             | Error::TooDeep { place, .. }
             | Error::Misfit { place, .. }
+            | Error::Cut { place, .. }
+            | Error::Missing { place, .. }
             | Error::Unknown { place, .. } => place,
         };
         place as usize

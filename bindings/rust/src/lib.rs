@@ -1,7 +1,7 @@
 //! A verified reader of kiosk scripts.
 //!
 //! ```
-//! use tarbucket::{Reader, Shape};
+//! use tarbucket::{Error, Reader, Shape};
 //!
 //! let mut reader = Reader::new();
 //! let tree = reader.read(b"lift = 3\n").unwrap();
@@ -15,6 +15,8 @@
 //!
 //! let error = reader.read(b"a-1").unwrap_err();
 //! assert_eq!((error.number(), error.place()), (14, 1));
+//! assert!(matches!(reader.read(b"a ="), Err(Error::Cut { place: 3, .. })));
+//! assert!(matches!(reader.read(b"a =\nb = 1\n"), Err(Error::Missing { place: 3, .. })));
 //! ```
 //!
 //! The reader is one function without state, [`parse_source`], over slices that the caller lends. [`Reader`] owns such slices and grows them as a source

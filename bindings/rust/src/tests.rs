@@ -1,5 +1,6 @@
 use crate::*;
 
+mod refused;
 mod spelling;
 
 fn number_and_place(src: &[u8]) -> (u32, usize) {
@@ -16,7 +17,7 @@ fn scripts_of_the_definition() {
         (b"a-1", 14, 1),
         (b"-1.5", 14, 3),
         (b"1.e5", 0, 0),
-        (b"()", 14, 2),
+        (b"()", 15, 2),
         (b"())", 0, 0),
         (b"not a == b", 0, 0),
         (b"if a:\n  b", 14, 9),
@@ -45,15 +46,6 @@ fn scripts_of_the_definition() {
     assert_eq!(number_and_place(&deep), (13, 64));
     assert_eq!(number_and_place(&deep[1..128]), (0, 0));
     assert_eq!(number_and_place(&[b' '; LONGEST + 1]), (1, 0));
-}
-
-#[test]
-fn numbers_of_errors() {
-    for number in 1..20 {
-        let error = Error::of(number, 7, 0, 0);
-        assert_eq!((error.number(), error.place()), (number, if number < 5 { 0 } else { 7 }));
-        assert_eq!(matches!(error, Error::Unknown { .. }), number == 12 || number > 14);
-    }
 }
 
 #[test]
