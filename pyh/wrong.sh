@@ -1,6 +1,6 @@
 #!/bin/sh
-# Builds wrong copies of pyh: the stored cases must find each, and nothing in a copy that has no edit. It wants what pyh/test.sh wants, and over ten
-# minutes.
+# Builds wrong copies of pyh: the stored cases must find each, and nothing in a copy that has no edit. It wants what pyh/test.sh wants, and about
+# twenty minutes.
 set -eu
 cd "$(dirname "$0")/.."
 rt staticlib ffi >/dev/null
@@ -93,6 +93,30 @@ wrong "options behind --" arguments.rs 's/if bytes == b"--" {/if bytes == b"--" 
 wrong "the first option for the nearest" arguments.rs 's/names.min_by_key(.*/{ let mut names = names; names.next().expect("there are names") };/'
 wrong "a nearest that is not near" arguments.rs 's/if other \&\& wrong == .*/if false {/'
 wrong "the first format counts" arguments.rs 's/self.chosen.iter().rev()/self.chosen.iter()/'
-wrong "a remedy that was not tried" misfit.rs 's/Ok(_) => true,/_ => true,/'
-wrong "no remedy that leads to a later refusal" misfit.rs 's/=> e.place() > .*/=> false,/'
+wrong "a remedy that was not tried" misfit.rs 's/Ok(_) => Some(usize::MAX),/_ => Some(usize::MAX),/'
+wrong "no remedy that leads to a later refusal" misfit.rs 's/=> Some(e.place()),/=> None,/'
+wrong "no remedy that leads to the script's end" misfit.rs 's/Error::Cut { .. } | //'
+wrong "no remedy that leads to a value that is missing" misfit.rs 's/Error::Missing { .. } | //'
+wrong "a remedy that fits, but leads no further" misfit.rs 's/self.reach(&part, new) > Some/self.reach(\&part, new) >= Some/'
+wrong "a line of a string taken for a comment" misfit.rs 's/if end <= self.place - self.line.len()/if code(self.line).is_empty()/'
+wrong "brackets from the outermost on" ending.rs 's/self.before.open.iter().rev()/self.before.open.iter()/'
+wrong "brackets that are all named" ending.rs 's/NAMED: usize = 4/NAMED: usize = 400/'
+wrong "brackets at the script's end" ending.rs 's/locate(self.src, at)/locate(self.src, self.src.len())/'
+wrong "more wanted where a bracket can be closed" ending.rs 's/|bracket| self.fits(&\[bracket.closer as u8\])/|_| false/'
+wrong "a bracket closed where a value is missing" ending.rs 's/|bracket| self.fits(&\[bracket.closer as u8\])/|_| true/'
+wrong "a block at the script's end" ending.rs 's/line_number(self.src, header.start)/line_number(self.src, self.src.len())/'
+wrong "a block that is missing taken for one that was begun" ending.rs 's/{ "missing" } else/{ "not finished" } else/'
+wrong "a value that may be no value" ending.rs 's/if self.fits(b" None")/if true/'
+wrong "a colon that does not fit" ending.rs 's/if self.fits(b":")/if true/'
+wrong "an empty tuple for each )" ending.rs 's/ && self.fits(b")")//'
+wrong "None for all that is missing" ending.rs 's/self.last() == "`return`"/true/'
+wrong "the script's end taken for a line's" ending.rs 's/None => misfit.end_of_script(),/None => "A value is missing at the end of this line.".to_string(),/'
+wrong "a block's end within a line taken for the line's" ending.rs "s/Some(b'.n') => format/Some(_) => format/"
+wrong "a lambda's colon taken for a block's" before.rs 's/if self.lambdas > 0/if false/'
+wrong "a pair's colon taken for a block's" before.rs 's/b":" if self.open.is_empty()/b":"/'
+wrong "half a tuple taken for a whole one" before.rs 's/ && !bracket.behind_value => / \&\& false => /'
+wrong "a call taken for half a tuple" before.rs 's/ && !bracket.behind_value => / => /'
+wrong "not taken for a function" before.rs 's/ && !OTHERS.contains(&token)//'
+wrong "if taken for a function" before.rs 's/ && !HEADERS.contains(&token)//'
+wrong "a comment taken for the last token" source.rs "s/^                b'#' => .*//"
 echo "$count passed, 0 failed"

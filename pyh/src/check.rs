@@ -44,8 +44,9 @@ script that is too long (number 1) has no place of its own, and stands at 1:1.
 numbers: 1 too long, 5 no UTF-8, 6 a tab in the indentation, 7 indented by other
 than two more, 8 back on no level, 9 no token (a character that means nothing, a
 string that is not closed), 10 a whole number out of range, 11 a number with a
-dot that is not read, 13 nested too deeply, 14 does not fit the grammar; no
-script gets 12
+dot that is not read, 13 nested too deeply, 14 does not fit the grammar, 15 the
+script ends too early, 16 a value is missing at the end of a line, or where the
+script ends within a block; no script gets 12
 
 In a name, bytes that are no UTF-8 are shown as in \\xE9, what no one sees as in
 \\n or \\u{1b}, a backslash as \\\\. In json the name is itself; where it is no

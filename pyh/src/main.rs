@@ -2,9 +2,11 @@
 //!
 //! A command has a file of its own with its entry in [`COMMANDS`]: name, help, options and what it does.
 mod arguments;
+mod before;
 mod character;
 mod check;
 mod drawing;
+mod ending;
 mod excerpt;
 mod json;
 mod misfit;

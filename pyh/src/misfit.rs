@@ -1,22 +1,22 @@
-//! Why a token does not fit. What is said of a remedy was tried: with it the reader comes further.
+//! Why a token does not fit: the sentences for 14, and what tries a remedy. What is said of one was tried: with it the reader comes further.
+use crate::before::{before, Before};
 use crate::sentence::quoted;
-use crate::source::{before, code, indentation, line_above, line_number, line_start, token, Before};
+use crate::source::{code, indentation, line_above, line_number, line_start, token};
 use std::ops::Range;
 use tarbucket::{Error, Reader};
 
 /// A token that does not fit, and what stands before it.
-struct Misfit<'a> {
-    src: &'a [u8],
+pub struct Misfit<'a> {
+    pub src: &'a [u8],
     place: usize,
     /// Its line up to it, and the last line with a token before that.
     line: &'a [u8],
     above: Option<&'a [u8]>,
-    before: Before,
+    pub before: Before,
 }
 
 pub fn misfit(src: &[u8], place: usize) -> String {
-    let start = line_start(src, place);
-    let misfit = Misfit { src, place, line: &src[start..place], above: line_above(src, start), before: before(&src[..place]) };
+    let misfit = Misfit::new(src, place);
     if let Some(sentence) = misfit.no_body() {
         return sentence;
     }
@@ -31,15 +31,30 @@ pub fn misfit(src: &[u8], place: usize) -> String {
     }
 }
 
-impl Misfit<'_> {
+impl<'a> Misfit<'a> {
+    pub fn new(src: &'a [u8], place: usize) -> Misfit<'a> {
+        let start = line_start(src, place);
+        Misfit { src, place, line: &src[start..place], above: line_above(src, start), before: before(&src[..place]) }
+    }
+
     /// Whether the reader comes further with this in place of a part.
-    fn helps(&self, part: Range<usize>, new: &[u8]) -> bool {
+    pub fn helps(&self, part: Range<usize>, new: &[u8]) -> bool {
+        self.reach(&part, new) > Some((part.start + new.len()).max(self.place + new.len() - part.len()))
+    }
+
+    /// Whether this can stand behind the last token, whatever follows.
+    pub fn fits(&self, new: &[u8]) -> bool {
+        let end = self.before.last.end;
+        self.reach(&(end..end), new) >= Some(end + new.len())
+    }
+
+    /// How far the reader comes with this in place of a part; none where a token is wrong then.
+    fn reach(&self, part: &Range<usize>, new: &[u8]) -> Option<usize> {
         let mended = [&self.src[..part.start], new, &self.src[part.end..]].concat();
-        let after = part.start + new.len();
         match Reader::new().read(&mended) {
-            Ok(_) => true,
-            Err(e @ (Error::Misfit { .. } | Error::TooDeep { .. })) => e.place() > after.max(self.place + new.len() - part.len()),
-            Err(_) => false,
+            Ok(_) => Some(usize::MAX),
+            Err(e @ (Error::Misfit { .. } | Error::Cut { .. } | Error::Missing { .. } | Error::TooDeep { .. })) => Some(e.place()),
+            Err(_) => None,
         }
     }
 
@@ -64,26 +79,14 @@ impl Misfit<'_> {
         }
     }
 
-    fn end_of_script(&self) -> String {
-        let end = self.src.len();
-        if !self.line.is_empty() && self.helps(end..end, b"\n") {
-            return "The script ends here, but its last line must end with a line break.".to_string();
-        }
-        match self.before.open.last() {
-            Some(bracket) => format!("The script ends inside brackets: a `{bracket}` is missing."),
-            None => "The script ends here, but more was expected.".to_string(),
-        }
-    }
-
     fn end_of_line(&self) -> String {
-        let code = code(self.line);
-        let end = self.place - self.line.len() + code.len();
-        if code.is_empty() {
+        let end = self.before.last.end;
+        if end <= self.place - self.line.len() {
             "A blank line, or a comment alone, does not fit here: the methods of a class follow each other at once.".to_string()
-        } else if let Some(bracket) = self.before.open.last() {
-            format!("The line ends inside brackets: all up to the closing `{bracket}` must stand on this line.")
-        } else if code.ends_with(b"()") && self.helps(end..end, b")") {
+        } else if self.before.ends_with_tuple() && self.helps(end..end, b")") {
             "`()` is no value: the empty tuple is written `())`.".to_string()
+        } else if let Some(bracket) = self.before.open.last() {
+            format!("The line ends inside brackets: {}.", bracket.on_one_line())
         } else if self.helps(end..end, b":") {
             "A `:` is missing at the end of this line.".to_string()
         } else {
@@ -152,7 +155,9 @@ impl Misfit<'_> {
             }
         }
         match self.before.open.last() {
-            Some(&bracket) if self.helps(self.place..self.place, &[bracket as u8]) => format!(": a `{bracket}` may be missing before it."),
+            Some(bracket) if self.helps(self.place..self.place, &[bracket.closer as u8]) => {
+                format!(": a `{}` may be missing before it.", bracket.closer)
+            }
             _ => ".".to_string(),
         }
     }

@@ -1,8 +1,10 @@
 //! A short plain sentence for each number.
+use crate::before::before;
 use crate::character::character;
+use crate::ending;
 use crate::excerpt::{cut, plain};
 use crate::misfit::misfit;
-use crate::source::{before, indentation, line_number, token};
+use crate::source::{indentation, line_number, token};
 use tarbucket::Error;
 
 /// The longest part of a script that a sentence quotes, in characters.
@@ -24,6 +26,8 @@ pub fn sentence(src: &[u8], error: Error) -> String {
         Error::FloatRange { .. } => float(token(here)),
         Error::TooDeep { .. } => "This is nested too deeply: at most 64 expressions and blocks may be open at once.".to_string(),
         Error::Misfit { .. } => misfit(src, place),
+        Error::Cut { .. } => ending::cut(src),
+        Error::Missing { .. } => ending::missing(src, place),
         _ => format!("The reader gave the number {}.", error.number()),
     }
 }

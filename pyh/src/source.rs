@@ -1,41 +1,6 @@
 //! What the sentences need to know of a script's text: its lines, and the tokens around a place.
 use std::ops::Range;
 
-/// What stands before a place.
-pub struct Before {
-    /// What closes each bracket that is open there, the innermost last. A line feed outside of strings closes all.
-    pub open: Vec<char>,
-    /// The last string.
-    pub string: Option<Range<usize>>,
-}
-
-pub fn before(src: &[u8]) -> Before {
-    let mut found = Before { open: Vec::new(), string: None };
-    let mut i = 0;
-    while i < src.len() {
-        match src[i] {
-            b'"' | b'\'' => {
-                let end = i + string_end(&src[i..]);
-                found.string = Some(i..end);
-                i = end;
-                continue;
-            }
-            b'#' => {
-                i += src[i..].iter().take_while(|&&b| b != b'\n').count();
-                continue;
-            }
-            b'\n' => found.open.clear(),
-            b'(' => found.open.push(')'),
-            b'[' => found.open.push(']'),
-            b'{' => found.open.push('}'),
-            b')' | b']' | b'}' => _ = found.open.pop(),
-            _ => {}
-        }
-        i += 1;
-    }
-    found
-}
-
 /// Where the line of a place begins.
 pub fn line_start(src: &[u8], place: usize) -> usize {
     src[..place].iter().rposition(|&b| b == b'\n').map_or(0, |i| i + 1)
@@ -66,6 +31,23 @@ pub fn indentation(line: &[u8]) -> usize {
     line.iter().take_while(|&&b| b == b' ').count()
 }
 
+/// Where each token stands, line feeds among them; blanks and comments are passed over.
+pub fn tokens(src: &[u8]) -> impl Iterator<Item = Range<usize>> + '_ {
+    let mut i = 0;
+    std::iter::from_fn(move || {
+        loop {
+            i += match src.get(i)? {
+                b' ' | b'\t' | b'\r' => 1,
+                b'#' => src[i..].iter().take_while(|&&b| b != b'\n').count(),
+                _ => break,
+            };
+        }
+        let start = i;
+        i += token(&src[i..]).len();
+        Some(start..i)
+    })
+}
+
 /// The token at the front of the bytes: a number that is refused, or any of a script whose tokens were all found, so that all bytes over 127 outside of strings
 /// and comments are those of names.
 pub fn token(here: &[u8]) -> &[u8] {
@@ -84,7 +66,7 @@ pub fn token(here: &[u8]) -> &[u8] {
     &here[..end]
 }
 
-fn in_word(b: u8) -> bool {
+pub fn in_word(b: u8) -> bool {
     b.is_ascii_alphanumeric() || b == b'_' || b > 127
 }
 

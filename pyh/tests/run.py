@@ -5,6 +5,7 @@ import tempfile
 import traceback
 
 import carets
+import cuts
 import floats
 import known
 import streams
@@ -41,7 +42,7 @@ def main():
         for name in ("NO_COLOR", "COLUMNS"):
             os.environ.pop(name, None)
         os.environ.update(TERM="xterm-256color", LC_ALL="C.UTF-8")
-        for part in (transcripts, known, floats, carets, streams, terminal):
+        for part in (transcripts, known, floats, carets, cuts, streams, terminal):
             work = os.path.join(folder, part.__name__)
             os.mkdir(work)
             try:
