@@ -1,4 +1,4 @@
-//! The plain reader in the place of the verified one: compare/wrong.sh links wrong copies of it.
+//! The plain reader in the place of the verified one: compare/plain.sh builds it, compare/wrong.sh links wrong copies of it.
 
 /// # Safety
 /// As of the library's own function: each pointer is to as many cells as its length says.

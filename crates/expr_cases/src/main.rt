@@ -3,7 +3,7 @@
 //
 //     ok AT NODES OPENED WORD ..   the token after t, how many nodes and openings, and the eight words of each node
 //     no NUMBER PLACE              a refusal of the scanner
-//     no NUMBER PLACE OPENED       a refusal of t, 13 or 14, with the openings up to it
+//     no NUMBER PLACE OPENED       a refusal of t, 13 or what it hands on (14 or 16), with the openings up to it
 //
 // What follows t is not asked for. docs/CASES.md says how the cases were made.
 mod answers;
