@@ -1,5 +1,5 @@
 #!/bin/sh
-# Builds wrong copies of pyh: the stored cases must find each, and nothing in a copy that has no edit. It wants what pyh/test.sh wants, and about
+# Builds wrong copies of pyh: the stored cases must find each, and nothing in a copy that has no edit. It wants what pyh/test.sh wants, and over
 # twenty minutes.
 set -eu
 cd "$(dirname "$0")/.."

@@ -4,8 +4,8 @@
     python3 tools/expr_cases.py crates/expr_cases
 
 Every expected line is made by tools/reference: scan.py, the method t of descent.py on its tokens, and cut.py. A refusal is by 13, or by what is handed on:
-16 where only an expression or operand could stand, whatever token does not fit, and 14 for all else. All were written from documents 01 and 02 alone.
-Nothing is taken from what the program prints.
+16 where only an expression or operand could stand, whatever token does not fit, and 14 for all else (`Parsed`, crates/leaves). Tokens, tree and
+what could stand are by documents 01 and 02 alone. Nothing is taken from what the program prints.
 """
 import os
 import random

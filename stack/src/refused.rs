@@ -5,7 +5,7 @@ use crate::nest::{nest, shown, DEEPEST};
 use crate::source::Source;
 
 /// What stands behind, its number, and its place from there on.
-const ENDS: [(&[u8], u32, usize); 15] = [
+const ENDS: [(&[u8], u32, usize); 17] = [
     (b"'a\xff'", 5, 2),
     (b"\ta", 6, 0),
     (b" a", 7, 0),
@@ -18,9 +18,11 @@ const ENDS: [(&[u8], u32, usize); 15] = [
     ("€".as_bytes(), 9, 0),
     ("역_4€".as_bytes(), 9, 5),
     (b"a b", 14, 2),
-    (b"a=", 14, 2),
+    (b"a=", 15, 2),
+    (b"a=\n", 16, 2),
     (b"if a:\n  a", 14, 9),
-    (b"(a", 14, 2),
+    (b"if a:\n  a=", 16, 10),
+    (b"(a", 15, 2),
 ];
 
 /// Leaves at which the grammar says no at once.

@@ -1,7 +1,7 @@
 -- Refusals 14, 15 and 16 stand at the first token that does not fit: no input that begins with the same tokens, up to that one and with it, is accepted.
 -- Two inputs are compared that begin alike, and go on with v and with v′. As long as the descent stands in what they share it does the same in both.
 -- Assumes nothing.
-use mathlib.Core.Path.{_≡_, refl, ap}
+use mathlib.Core.Path.{_≡_, refl}
 use mathlib.Core.Bool.{Bool, true, false, _||_}
 use mathlib.Core.List.{List, [], _∷_, _++_}
 use Prim.Native.Nat.{ℕ, zero, suc, _+_, _≤_, _<_}

@@ -18,7 +18,7 @@ pub record Plan (Act R : Type 0) : Type 0 where
   pub opens : R → Bool  -- it takes of the room for depth
 
 -- What the descent comes to, each with the count of openings so far: `done`, a state; `no`, where the next token of the state does not fit, with the tokens
--- that were asked for there; `deep`, refusal 13, where the next token would open one rule too many within one another.
+-- of which one was asked for there (more could stand: a repeated part, or one that may be absent, asks for none); `deep`, refusal 13, where the next token would open one rule too many within one another.
 -- `stuck` is for the trial's `out`, and never comes where the count suffices.
 pub data Answer {Act : Type 0} (M : Machine Act) : Type 0 where
   done : ℕ → St M → Answer M

@@ -1,4 +1,4 @@
--- A choice, as code meets it: by the token that stands next one way is gone, or none, and then one of all was asked for.
+-- A choice, as code meets it: by the token that stands next one way is taken, or none, and then one of all was asked for.
 -- Assumes nothing.
 use mathlib.Core.Path.{_≡_, refl, ap, sym, _∙_}
 use mathlib.Core.Bool.{Bool, true, false, _||_}
@@ -25,9 +25,8 @@ use Rattle.lookahead.proofs.Tokens.{sees-at}
 use Rattle.lookahead.proofs.Tests.{or-true, among-second}
 use Rattle.joint.proofs.Chain.{_⨟_, on, regroup}
 
--- what is gone
 module _ (src toks : List ℕ) where
-  -- the last way of a choice is gone: it may be absent, or its token stands next
+  -- the last way of a choice is taken: it may be absent, or its token stands next
   pub data Goes (s : State) : Part Action Rule → Type 0 where
     absent : {p : Part Action Rule} → null p ≡ true → Goes s p
     starts : {p : Part Action Rule} → mem (symbolAt src toks (s .at .0)) (begins first p) ≡ true → Goes s p
@@ -37,7 +36,7 @@ module _ (src toks : List ℕ) where
   goes-on {s} {p} h (starts e) = rw (sees-at src toks (begins first p) (s .at .0) h ∙ e) (or-true (null p))
 
 module _ {src toks : List ℕ} where
-  -- what goes, goes behind another way too
+  -- and so is a choice that has it for its last way
   pub later : {s : State} {p p′ : Part Action Rule} → Goes src toks s p′ → Goes src toks s (p ∕ p′)
   unfolding null begins
   later {p = p} {p′} (absent n) = absent {p = p ∕ p′} (rw n (or-true (null p)))
@@ -92,16 +91,16 @@ is-no (told-node n s tr u) e = absurd (let z : _≡_ {A = ℕ} 0 1 = cc in omega
 is-no {s = s} (told-no asked s₁ tr ws u) e = let d : s₁ ≡ s = cc in (asked, ws, cc, rw d)
 is-no (told-deep s tr ws u) e = absurd (let z : _≡_ {A = ℕ} 13 14 = cc in omega arith)
 
--- neither way of a choice is starts
+-- neither way of a choice starts
 neither : (src toks : List ℕ) (room : ℕ) (p p′ : Part Action Rule) (s : State) (tr : List ℕ) (ws : List Value) → s .at .0 ≤ eofAt toks → mem (symbolAt src toks (s .at .0)) (begins first p) ≡ false → null p′ ≡ false → mem (symbolAt src toks (s .at .0)) (begins first p′) ≡ false →
     on src toks room (p ∕ p′) (s .opened) (state src toks s tr ws) ≡ no (begins first p ++ begins first p′) (s .opened) (state src toks s tr ws)
 unfolding walk orD state
 neither src toks room p p′ s tr ws h e n f = rw (sees-at src toks (begins first p) (s .at .0) h ∙ e, n, sees-at src toks (begins first p′) (s .at .0) h ∙ f)
 
 module _ {src toks : List ℕ} {room : ℕ} {out : Shape} {vs : List Value} {p p′ : Part Action Rule} {s : State} {tr : List ℕ} {ws : List Value} where
-  pub or-none : {k : ℕ} → s .at .0 ≤ eofAt toks → s .used ≡ textBefore src toks (s .at .0) → mem (symbolAt src toks (s .at .0)) (begins first p) ≡ false → null p′ ≡ false → mem (symbolAt src toks (s .at .0)) (begins first p′) ≡ false →
+  pub or-neither : {k : ℕ} → s .at .0 ≤ eofAt toks → s .used ≡ textBefore src toks (s .at .0) → mem (symbolAt src toks (s .at .0)) (begins first p) ≡ false → null p′ ≡ false → mem (symbolAt src toks (s .at .0)) (begins first p′) ≡ false →
       askedNumber (begins first p ++ begins first p′) ≡ k → Comes src toks room (p ∕ p′) out vs ws s tr (Refused k s) tr
-  or-none h u e n f a = record { told = rw (neither src toks room p p′ s tr ws h e n f, ← a) (told-no (begins first p ++ begins first p′) s tr ws u); frame = frame-none }
+  or-neither h u e n f a = record { told = rw (neither src toks room p p′ s tr ws h e n f, ← a) (told-no (begins first p ++ begins first p′) s tr ws u); frame = frame-none }
 
   -- the same where code of its own reads the last way, which refuses here
   or-stop : {a : Parsed} {t : List ℕ} → s .at .0 ≤ eofAt toks → mem (symbolAt src toks (s .at .0)) (begins first p) ≡ false → null p′ ≡ false → mem (symbolAt src toks (s .at .0)) (begins first p′) ≡ false →

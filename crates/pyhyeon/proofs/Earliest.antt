@@ -24,7 +24,7 @@ use Rattle.pyhyeon.specs.Tables.{follow, depth, pyhyeon}
 use Rattle.pyhyeon.specs.Prices.{prices}
 use Rattle.pyhyeon.specs.Missing.{Fault, faultNumber, faultOf}
 use Rattle.pyhyeon.specs.Reading.{Work, Misfit, start, code, here, descended, descent}
-use Rattle.pyhyeon.specs.Earliest.{Accepts, isToken, Numbered, cut, missing, wrong, Earliest}
+use Rattle.pyhyeon.specs.Earliest.{Accepts, isToken, Numbered, at-end, lacking, other, Earliest}
 use Rattle.pyhyeon.proofs.Language.{language}
 use Rattle.pyhyeon.proofs.Agreement.{map-length, descent-answers}
 use Rattle.pyhyeon.proofs.Meter.{act-at, counted, meter}
@@ -103,15 +103,15 @@ module _ (source : List ℕ) (toks : List Token) where
 
   -- each of the three numbers excludes the others
   one-number : {w : List Token} {t : Token} {i j : ℕ} → Numbered source w t i → Numbered source w t j → i ≡ j
-  one-number (cut e) (cut e₁) = refl
-  one-number (cut e) (missing m o) = absurd (rw e at m)
-  one-number (cut e) (wrong f g) = absurd (f e)
-  one-number (missing m o) (cut e) = absurd (rw e at m)
-  one-number (missing m o) (missing m₁ o₁) = refl
-  one-number (missing m o) (wrong f g) = absurd (g m o)
-  one-number (wrong f g) (cut e) = absurd (f e)
-  one-number (wrong f g) (missing m o) = absurd (g m o)
-  one-number (wrong f g) (wrong f₁ g₁) = refl
+  one-number (at-end e) (at-end e₁) = refl
+  one-number (at-end e) (lacking m o) = absurd (rw e at m)
+  one-number (at-end e) (other f g) = absurd (f e)
+  one-number (lacking m o) (at-end e) = absurd (rw e at m)
+  one-number (lacking m o) (lacking m₁ o₁) = refl
+  one-number (lacking m o) (other f g) = absurd (g m o)
+  one-number (other f g) (at-end e) = absurd (f e)
+  one-number (other f g) (lacking m o) = absurd (g m o)
+  one-number (other f g) (other f₁ g₁) = refl
 
   -- and at no other place, and with no other number
   pub one-place : (i j p q : ℕ) → Earliest source toks i p → Earliest source toks j q → (i ≡ j) × (p ≡ q)

@@ -14,15 +14,15 @@ use Rattle.grammar.proofs.Sets.{and-l, and-r, or-l, or-r, or-e, not-e, mem-with
 use Rattle.grammar.proofs.Asking.{Refuses}
 use Rattle.grammar.proofs.Wanting.{unseen, exposed, firm, shows, direct, closing}
 use Rattle.grammar.proofs.Exact.{asked-stands, only-these, end-stands}
-use Rattle.token.specs.Code.{Int, LParen, LBrace, Newline, Dedent, Eof}
+use Rattle.token.specs.Code.{Int, LParen, LBrace, Eof}
 use Rattle.tokens.specs.Token.{Token}
 use Rattle.pyhyeon.specs.Symbol.{symbol}
 use Rattle.pyhyeon.specs.Machine.{blank}
 use Rattle.pyhyeon.specs.Action.{machine}
 use Rattle.pyhyeon.specs.Rules.{Rule, Program, Line, Simple, Block, Class, E, O, A, C, S, P, U, F, names, plain}
 use Rattle.pyhyeon.specs.Tables.{joined, first, follow, rank, firstF, firstE, pyhyeon}
-use Rattle.pyhyeon.specs.Missing.{Fault, asksOperand, faultNumber, faultOf}
-use Rattle.pyhyeon.specs.Earliest.{Accepts, OnlyOperand, Numbered, cut, missing, wrong}
+use Rattle.pyhyeon.specs.Missing.{wrong, cut, missing, asksOperand, lineEnds, faultNumber, faultOf}
+use Rattle.pyhyeon.specs.Earliest.{Accepts, OnlyOperand, Numbered, at-end, lacking, other}
 use Rattle.pyhyeon.proofs.Language.{language, tightly}
 use Rattle.pyhyeon.proofs.Symbols.{symbol-eof}
 use Rattle.pyhyeon.proofs.Late.{height, isCode, finishes, tokenFor, symbol-for, tokens-for, AcceptsSymbols, of-more, to-more}
@@ -149,7 +149,7 @@ module _ (source : List ℕ) (w : List Token) (t : Token) {v asked : List ℕ} (
   -- where an operand is asked for, only an expression or operand could stand
   operands : T (asksOperand asked) → OnlyOperand source w
   operands h = record {
-    each = λ u m. let c : ℕ = symbol source u in
+    each = λ u _ m. let c : ℕ = symbol source u in
         let (l, i, a) = stands c (not-eof c (λ e. subst (λ (d : ℕ). T (mem d firstF)) e m)) (mem-within c firstF asked (and-l (within firstF asked) (within asked firstE) h) m) in
         (map tokenFor l, tokens-for l i, of-more source [] w (u ∷ []) l a);
     only = only-of firstE shown (and-r (within firstF asked) (within asked firstE) h);
@@ -162,7 +162,7 @@ module _ (source : List ℕ) (w : List Token) (t : Token) {v asked : List ℕ} (
     -- an Int can stand, so that more than a name or a bracket is asked for
     not-narrow : T (within asked narrow) → ⊥
     unfolding narrow
-    not-narrow n = let (l, i, a) = o .each (tokenFor Int) tt in only-of narrow named n (tokenFor Int) l a
+    not-narrow n = let (l, i, a) = o .each (tokenFor Int) tt tt in only-of narrow named n (tokenFor Int) l a
 
     not-stray : T (strayIn asked) → ⊥
     not-stray s =
@@ -180,11 +180,11 @@ module _ (source : List ℕ) (w : List Token) (t : Token) {v asked : List ℕ} (
 
 -- The number that the descent gives where it refuses before t is that of t.
 pub numbered : (source : List ℕ) (w : List Token) (t : Token) {v asked : List ℕ} → Refuses pyhyeon (joined Program) (map (symbol source) w) (symbol source t ∷ v) asked → Numbered source w t (faultNumber (faultOf (t .code) asked))
-numbered source w t {asked = asked} x = by (eqb (t .code) Eof) (mem (t .code) (Newline ∷ Dedent ∷ [])) (asksOperand asked) (λ h. eqb→eq (t .code) Eof h) (λ e. rw e tt) (λ h. h) (λ h. h) (λ h. h) (λ h. h)
+numbered source w t {asked = asked} x = by (eqb (t .code) Eof) (mem (t .code) lineEnds) (asksOperand asked) (λ h. eqb→eq (t .code) Eof h) (λ e. rw e tt) (λ h. h) (λ h. h) (λ h. h) (λ h. h)
   where
-    by : (a b c : Bool) → (T a → t .code ≡ Eof) → (t .code ≡ Eof → T a) → (T b → T (mem (t .code) (Newline ∷ Dedent ∷ []))) → (T (mem (t .code) (Newline ∷ Dedent ∷ [])) → T b) → (T c → T (asksOperand asked)) → (T (asksOperand asked) → T c) →
-        Numbered source w t (faultNumber (cond a Fault.cut (cond b (cond c Fault.missing Fault.wrong) Fault.wrong)))
-    by true b c f f′ g g′ h h′ = cut (f tt)
-    by false true true f f′ g g′ h h′ = missing (g tt) (operands source w t x f′ (h tt))
-    by false true false f f′ g g′ h h′ = wrong f′ (λ _ o. h′ (asks source w t x f′ o))
-    by false false c f f′ g g′ h h′ = wrong f′ (λ m _. g′ m)
+    by : (a b c : Bool) → (T a → t .code ≡ Eof) → (t .code ≡ Eof → T a) → (T b → T (mem (t .code) lineEnds)) → (T (mem (t .code) lineEnds) → T b) → (T c → T (asksOperand asked)) → (T (asksOperand asked) → T c) →
+        Numbered source w t (faultNumber (cond a cut (cond b (cond c missing wrong) wrong)))
+    by true b c f f′ g g′ h h′ = at-end (f tt)
+    by false true true f f′ g g′ h h′ = lacking (g tt) (operands source w t x f′ (h tt))
+    by false true false f f′ g g′ h h′ = other f′ (λ _ o. h′ (asks source w t x f′ o))
+    by false false c f f′ g g′ h h′ = other f′ (λ m _. g′ m)

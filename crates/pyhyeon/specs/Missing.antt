@@ -18,16 +18,20 @@ faultNumber wrong = 14
 faultNumber cut = 15
 faultNumber missing = 16
 
--- Of these tokens one was asked for, and by that an expression or operand: each token that begins F is among them, and none that begins no E. It is so exactly
--- where only an expression or operand could stand (Earliest.antt; proofs/Missing.antt).
+-- An expression or operand was asked for, by one of these tokens: each token that begins F is among them, and none that begins no E. Where the descent refuses
+-- before another token than Eof, this is so exactly where only an expression or operand could stand (Earliest.antt: `OnlyOperand`; proofs/Missing.antt: `numbered`).
 abbrev pub asksOperand : List ℕ → Bool
 asksOperand asked = within firstF asked && within asked firstE
 
--- what a Newline or Dedent tells where one of these tokens was asked for
+-- "a Newline or Dedent"
+abbrev pub lineEnds : List ℕ
+lineEnds = Newline ∷ Dedent ∷ []
+
+-- what one of them tells where one of these tokens was asked for
 abbrev pub askedFault : List ℕ → Fault
 askedFault asked = cond (asksOperand asked) missing wrong
 
 -- "Where 14 was given and the token is Eof, the answer is now one number; where it is a Newline or Dedent met where only an expression or operand could stand,
 -- another": by the code of the token, and the tokens that were asked for there
 abbrev pub faultOf : ℕ → List ℕ → Fault
-faultOf code asked = cond (eqb code Eof) cut (cond (mem code (Newline ∷ Dedent ∷ [])) (askedFault asked) wrong)
+faultOf code asked = cond (eqb code Eof) cut (cond (mem code lineEnds) (askedFault asked) wrong)

@@ -1,11 +1,9 @@
 -- From what a step answered to what the areas hold.
 -- Assumes nothing.
 use mathlib.Core.Path.{_≡_, refl, sym, ap, _∙_, subst}
-use mathlib.Core.Bool.{Bool, true, false, cond}
-use mathlib.Core.List.{List, [], _∷_, _++_, append-nil}
+use mathlib.Core.List.{List, [], _++_, append-nil}
 use Prim.Native.Nat.{ℕ, _+_, _-_, _*_, _≤_}
 use native.Mathlib.Omega.{arith}
-use lib.Dec.{eqb}
 use lib.ListN.{length, take, drop, replicate, length-append, length-replicate, drop-of-length-le}
 use Rattle.areas.specs.Area.{area, tokenArea}
 use Rattle.token.specs.declared.NodeNumber.{NodeNumber}
@@ -17,19 +15,15 @@ use Rattle.lexer.proofs.Writing.{length-words}
 use Rattle.lexer.proofs.Laws.{tokens-few, text-few}
 use Rattle.ast.specs.Words.{nodesOf}
 use Rattle.ast.proofs.Nodes.{length-nodes}
-use Rattle.grammar.specs.Sets.{mem}
-use Rattle.token.specs.Code.{Newline, Dedent, Eof}
-use Rattle.pyhyeon.specs.Missing.{wrong, cut, missing, faultNumber, asksOperand, faultOf}
 use Rattle.pyhyeon.specs.Reading.{Descended, Accepted, Limited, workOf, descent}
 use Rattle.pyhyeon.proofs.Limits.{limits}
 use Rattle.leaves.specs.declared.State.{State}
 use Rattle.leaves.specs.declared.Parsed.{Parsed}
 use Rattle.leaves.specs.declared.Parsed.the-variants as P
 use Rattle.lookahead.specs.Tokens.{codeAt, startAt}
-use Rattle.leaves.specs.Contract.{askedNumber}
 use Rattle.joint.proofs.Handed.{Handed, handed-front}
 use Rattle.reader.specs.Outcome.{Outcome, treeArea, header, ofDescent, ofScan}
-use Rattle.reader.specs.Steps.{Exact, padded, Held, stoppedBy, Counted, Fills}
+use Rattle.reader.specs.Steps.{Exact, padded, Held, Tells, Counted, Fills}
 use Rattle.reader.specs.declared.Answer.{Answer}
 use Rattle.reader.specs.declared.Answer.the-variants.{Tree, No, Stopped}
 use Rattle.reader.proofs.Filled.{zeros-pad, records-of}
@@ -72,18 +66,6 @@ module _ {toks : List ℕ} {T : ℕ} where
   few : {d : Descended} {n : NodeNumber} {s : State} {tr : List ℕ} → Came toks T d (P.Node n s) tr → Limited (workOf d) → (s .nodes ≤ 2 * T + 1) × (s .opened ≤ 10 * T + 1)
   few (came-node n s tr h) l = (omega (arith, l .nodes, length-nodes tr (s .nodes)), l .openings)
 
--- the token tells the number of what was asked for
-stopped-is : (asked : List ℕ) (code : ℕ) → stoppedBy (askedNumber asked) code ≡ faultNumber (faultOf code asked)
-stopped-is asked code = go (asksOperand asked) (eqb code Eof) (mem code (Newline ∷ Dedent ∷ []))
-  where
-    go : (a b c : Bool) → cond (eqb (faultNumber (cond a missing wrong)) 13) 13 (cond b 15 (cond c (faultNumber (cond a missing wrong)) 14)) ≡ faultNumber (cond b cut (cond c (cond a missing wrong) wrong))
-    go true true c = refl
-    go true false true = refl
-    go true false false = refl
-    go false true c = refl
-    go false false true = refl
-    go false false false = refl
-
 module _ {src : List ℕ} {count used : ℕ} {tokens text : List ℕ} (held : Held src count used tokens text) (h : Handed src count used tokens) {s : State} {tr : List ℕ} where
   -- the counts of an accepted source
   pub counts : {toks : List ℕ} {n : NodeNumber} → Came toks count (descent src (h .ts)) (P.Node n s) tr → Counted (length src) count used (s .nodes) (s .opened)
@@ -107,16 +89,16 @@ module _ {src : List ℕ} {count used : ℕ} {tokens text : List ℕ} (held : He
       })
 
   -- a refusal: zeros alone
-  pub refuses : {toks : List ℕ} {k number code place : ℕ} {tokens′ text′ tree′ : List ℕ} → length tr ≡ treeArea (length src) → Came toks count (descent src (h .ts)) (P.Refused k s) tr → number ≡ stoppedBy k code → code ≡ codeAt toks (s .at .0) → place ≡ startAt toks (s .at .0)
+  pub refuses : {toks : List ℕ} {k number code place : ℕ} {tokens′ text′ tree′ : List ℕ} → length tr ≡ treeArea (length src) → Came toks count (descent src (h .ts)) (P.Refused k s) tr → Tells k code number → code ≡ codeAt toks (s .at .0) → place ≡ startAt toks (s .at .0)
       → tokens′ ≡ replicate (length tokens) 0 → text′ ≡ replicate (length text) 0 → tree′ ≡ replicate (length tr) 0
       → Fills (ofScan src (tokenList src)) (length src) (Stopped number place count (s .nodes) (s .opened)) tokens′ text′ tree′
   refuses {toks} {k} {number} {code} {place} {tokens′} {text′} {tree′} long c m o e p q r =
       subst (λ (x : Scan). Fills (ofScan src x) (length src) (Stopped number place count (s .nodes) (s .opened)) tokens′ text′ tree′) (sym (h .is))
-      (subst (λ (i : ℕ). Fills (ofDescent (length src) (h .ts) (h .bs) (descent src (h .ts))) (length src) (Stopped number i count (s .nodes) (s .opened)) tokens′ text′ tree′) (sym e) (rw (m, o) (go c)))
+      (subst (λ (i : ℕ). Fills (ofDescent (length src) (h .ts) (h .bs) (descent src (h .ts))) (length src) (Stopped number i count (s .nodes) (s .opened)) tokens′ text′ tree′) (sym e) (go c (rw o at m)))
     where
-      go : {d : Descended} {j : ℕ} {st : State} {t : List ℕ} → Came toks count d (P.Refused j st) t → Fills (ofDescent (length src) (h .ts) (h .bs) d) (length src) (Stopped (stoppedBy j (codeAt toks (st .at .0))) (startAt toks (st .at .0)) count (st .nodes) (st .opened)) tokens′ text′ tree′
-      go (came-no asked s tr l) = rw (length-nodes tr (s .nodes), stopped-is asked (codeAt toks (s .at .0))) (record { answer = refl; tokens-are = p ∙ zeros-pad (held-tokens held); text-is = q ∙ zeros-pad (held-text held); tree-is = r ∙ zeros-pad long })
-      go (came-deep s tr l) = rw (length-nodes tr (s .nodes)) (record { answer = refl; tokens-are = p ∙ zeros-pad (held-tokens held); text-is = q ∙ zeros-pad (held-text held); tree-is = r ∙ zeros-pad long })
+      go : {d : Descended} {j : ℕ} {st : State} {t : List ℕ} → Came toks count d (P.Refused j st) t → Tells j (codeAt toks (st .at .0)) number → Fills (ofDescent (length src) (h .ts) (h .bs) d) (length src) (Stopped number (startAt toks (st .at .0)) count (st .nodes) (st .opened)) tokens′ text′ tree′
+      go (came-no asked s tr l) w = rw (length-nodes tr (s .nodes), w .unfit asked refl) (record { answer = refl; tokens-are = p ∙ zeros-pad (held-tokens held); text-is = q ∙ zeros-pad (held-text held); tree-is = r ∙ zeros-pad long })
+      go (came-deep s tr l) w = rw (length-nodes tr (s .nodes), w .deep refl) (record { answer = refl; tokens-are = p ∙ zeros-pad (held-tokens held); text-is = q ∙ zeros-pad (held-text held); tree-is = r ∙ zeros-pad long })
 
 -- ---- the scanner's answer
 

@@ -57,7 +57,7 @@ pub record Outcome : Type 0 where
 abbrev pub untouched : ℕ → ℕ → Outcome
 untouched number place = record { answer = No number place; tokens = kept; text = kept; tree = kept }
 
--- "6 to 14 zero the areas", and 15 and 16 as 14 does
+-- "6 to 14 zero the areas"; 15 and 16 "join the fourteen of demand 1" (02, change 4), which says nothing else of what they leave in the slices
 abbrev pub cleared : Answer → Outcome
 cleared a = record { answer = a; tokens = holds []; text = holds []; tree = holds [] }
 
@@ -70,7 +70,7 @@ accepted n ts bs w = record {
   tree = holds (header n (w .tokens) (length bs) (length (w .nodes)) (w .openings) ++ records (w .nodes));
 }
 
--- "13 and 14 give T and openings"; "Program hands back its openings and its nodes written, in a refusal as well"
+-- "13 and 14 give T and openings", and 15 and 16 as 14; "Program hands back its openings and its nodes written, in a refusal as well"
 abbrev pub stopped : ℕ → ℕ → Work → Outcome
 stopped number place w = cleared (Stopped number place (w .tokens) (length (w .nodes)) (w .openings))
 

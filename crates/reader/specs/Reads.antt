@@ -77,7 +77,7 @@ pub record Alike (src : List ℕ) (nodes bytes : ℕ) (text tree : List ℕ) : T
 pub record Reads (src : List ℕ) (r : Answer) (tokens₀ text₀ tree₀ tokens text tree : List ℕ) : Type 0 where
   -- "Questions put to a script, first no decides": the answer
   pub answer : r ≡ outcome src (length tokens₀) (length text₀) (length tree₀) .answer
-  -- "1 to 5 leave all slices untouched; 6 to 14 zero the areas. .. Acceptance zeroes what it doesn't fill; words beyond an area stay": the whole of
+  -- "1 to 5 leave all slices untouched; 6 to 14 zero the areas" (15 and 16 as 14) ".. Acceptance zeroes what it doesn't fill; words beyond an area stay": the whole of
   -- the token slice, of the text slice and of the tree slice
   pub tokens-are : tokens ≡ after (outcome src (length tokens₀) (length text₀) (length tree₀) .tokens) (tokenArea (length src)) tokens₀
   pub text-is : text ≡ after (outcome src (length tokens₀) (length text₀) (length tree₀) .text) (length src) text₀

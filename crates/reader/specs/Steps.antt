@@ -2,16 +2,14 @@
 -- Assumes nothing.
 use Prim.Native.Nat.{ℕ, _+_, _-_, _*_, _≤_}
 use mathlib.Core.Path.{_≡_}
-use mathlib.Core.Bool.{cond}
-use mathlib.Core.List.{List, [], _∷_, _++_}
-use lib.Dec.{eqb}
+use mathlib.Core.List.{List, _++_}
 use lib.ListN.{length, replicate}
-use Rattle.grammar.specs.Sets.{mem}
-use Rattle.token.specs.Code.{Newline, Dedent, Eof}
 use Rattle.areas.specs.Area.{tokenArea}
 use Rattle.lexer.specs.Scan.{tokenList}
 use Rattle.lexer.specs.Words.{answerOf, wordsOf, textBytes}
 use Rattle.lexer.specs.declared.Scanned.the-variants as S
+use Rattle.pyhyeon.specs.Missing.{faultNumber, faultOf}
+use Rattle.leaves.specs.Contract.{askedNumber}
 use Rattle.reader.specs.Outcome.{Area, kept, holds, Outcome, treeArea}
 use Rattle.reader.specs.declared.Answer.{Answer}
 
@@ -33,9 +31,10 @@ pub record Held (src : List ℕ) (count used : ℕ) (tokens text : List ℕ) : T
   pub tokens-are : tokens ≡ padded (tokenArea (length src)) (wordsOf (tokenList src))
   pub text-is : text ≡ padded (length src) (textBytes (tokenList src))
 
--- the number of a refusal that the tree reader hands on by 13 or by what was asked for, at a token of this code
-abbrev pub stoppedBy : ℕ → ℕ → ℕ
-stoppedBy asked code = cond (eqb asked 13) 13 (cond (eqb code Eof) 15 (cond (mem code (Newline ∷ Dedent ∷ [])) asked 14))
+-- the number r of a refusal at a token of this code, where the tree reader hands on k: 13, or what was asked for
+pub record Tells (k code r : ℕ) : Type 0 where
+  pub deep : k ≡ 13 → r ≡ 13
+  pub unfit : (asked : List ℕ) → k ≡ askedNumber asked → r ≡ faultNumber (faultOf code asked)
 
 -- the counts of an accepted source of n bytes
 pub record Counted (n tokens text nodes openings : ℕ) : Type 0 where

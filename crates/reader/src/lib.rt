@@ -12,7 +12,7 @@ ghost use Rattle.lexer.specs.Scan.{tokenList};
 ghost use Rattle.reader.specs.declared.Answer.the-variants as answer;
 ghost use Rattle.reader.specs.Outcome.{header, ofScan, treeArea};
 ghost use Rattle.reader.specs.Reads.{Reads};
-ghost use Rattle.reader.specs.Steps.{Exact, Fills, Counted, Held, padded, stoppedBy};
+ghost use Rattle.reader.specs.Steps.{Exact, Fills, Counted, Held, padded, Tells};
 use leaves::Parsed;
 use lexer::Scanned;
 use utf8::Utf8;
@@ -105,7 +105,7 @@ fn clear(tokens: &mut [u32], text: &mut [u8], tree: &mut [u32])
 // The number of a refusal at a token of this code, by 13 or by what was asked for there: the end is 15, a Newline or Dedent has what was asked for, and all else
 // is 14.
 fn stopped_by(asked: u32, code: u32) -> u32
-    ensures { λ r. ⌜ r ≡ stoppedBy asked code ⌝ }
+    ensures { λ r. ⌜ Tells asked code r ⌝ }
 {
     if asked == 13 {
         return 13;

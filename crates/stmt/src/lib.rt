@@ -34,7 +34,7 @@ pub use whole::program;
 // "at most 64 E and Block open at once" (01, Questions).
 const DEPTH: u32 = 64;
 
-// The answer to "E, Block": the node of E, the first node of the Block and the state behind both; or the number of a refusal, and the state.
+// The answer to "E, Block": the node of E, the first node of the Block and the state behind both; or a refusal, as `Parsed` has it.
 enum Clause {
     Both(NodeNumber, NodeNumber, State),
     Refused(u32, State),

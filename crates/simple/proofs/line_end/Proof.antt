@@ -1,7 +1,7 @@
 -- `simple::line_end` meets its contract: Newline or the end.
 -- Assumes nothing.
 use Rattle.joint.proofs.Seen.{see-end, tok-end}
-use Rattle.joint.proofs.Choices.{starts, or-first, or-next, or-none}
+use Rattle.joint.proofs.Choices.{starts, or-first, or-next, or-neither}
 use Rattle.lookahead.proofs.Tests.{coded, not-first}
 use Rattle.grammar.specs.Descent.{null, begins}
 use Rattle.token.specs.Code as code
@@ -48,7 +48,7 @@ returns-3 c =
     let at-symbol-at = c .before in
     let at-start = at-symbol-at .before .before .before .before in
     let h = at-start .pre .1 .0 in
-    λ room tr. record { comes = λ vs. or-none h (at-start .pre .1 .1) (not-first 48 [] (at-symbol-at .symbol-at .ensures) (c .match .rest .0 .1)) refl (not-first 49 [] (at-symbol-at .symbol-at .ensures) (c .match .rest .1)) refl }
+    λ room tr. record { comes = λ vs. or-neither h (at-start .pre .1 .1) (not-first 48 [] (at-symbol-at .symbol-at .ensures) (c .match .rest .0 .1)) refl (not-first 49 [] (at-symbol-at .symbol-at .ensures) (c .match .rest .1)) refl }
 
 pub line-end-spec : {M : Type 1} → statement M
 line-end-spec = tie.close (tie.spec symbol-at-requires past-requires returns returns-2 returns-3)

@@ -4,7 +4,7 @@ use Rattle.expr.proofs.Read.{after-e}
 use Rattle.joint.proofs.Taken.{ready-tested, taken-wrote}
 use Rattle.joint.proofs.Loops.{ready-of}
 use Rattle.joint.proofs.Chain.{called, part-then, part-stop}
-use Rattle.joint.proofs.Choices.{starts, or-first, or-next, or-none}
+use Rattle.joint.proofs.Choices.{starts, or-first, or-next, or-neither}
 use Rattle.leaves.specs.Contract.{Begun}
 use Rattle.pyhyeon.specs.Rules.{E}
 use Rattle.lookahead.proofs.Tests.{learnt}
@@ -131,7 +131,7 @@ module _ (t : ℕ) where
       let at-if1 = c .before .before in
       let r = at-if1 .before .before .before .before .before .before .before .pre .1 .0 in
       let b = learnt firstE (c .if2 .left) (c .before .begins-e .ensures) (at-if1 .before .before .symbol-at .ensures) in
-      record { comes = λ vs. or-none (r .here) (r .used) (shut-not at-if1) refl b refl }
+      record { comes = λ vs. or-neither (r .here) (r .used) (shut-not at-if1) refl b refl }
 
   pub meets : {M : Type 1} → lts.Closed (calls t) (braces-at t) reads.Post M
   meets = lts.spec (calls t) (braces-at t) reads.Post symbol-at-requires is-symbol-requires past-requires put-empty-requires begins-e-requires rule-e-requires enum-known-inner brace-requires enum-known-inner-2 same-length returns same-length-2 returns-2 same-length-3 returns-3 returns-4

@@ -4,7 +4,7 @@ use Rattle.joint.proofs.Taken.{ready-tested}
 use Rattle.expr.proofs.Low.{low-member}
 use Rattle.joint.proofs.Ends.{act-changed, one-then}
 use Rattle.joint.proofs.Chain.{tok-then, flat, list-parts}
-use Rattle.joint.proofs.Choices.{starts, or-first, or-next, or-none}
+use Rattle.joint.proofs.Choices.{starts, or-first, or-next, or-neither}
 use Rattle.lookahead.proofs.Tests.{learnt}
 use Rattle.token.specs.Code as code
 use Rattle.grammar.specs.Descent.{null, begins}
@@ -89,7 +89,7 @@ module _ (t : ℕ) where
       let r = at-if1 .before .before .before .before .before .before .before .pre .1 .0 in
       let e = learnt (code.RParen ∷ []) (at-if1 .if1 .left) (at-if1 .before .is-symbol .ensures) (at-if1 .before .before .symbol-at .ensures) in
       let k = learnt (code.Comma ∷ []) (c .if2 .left) (c .before .is-symbol2 .ensures) (at-if1 .before .before .symbol-at .ensures) in
-      record { comes = λ vs. or-none (r .here) (r .used) e refl k refl }
+      record { comes = λ vs. or-neither (r .here) (r .used) e refl k refl }
 
   pub meets : {M : Type 1} → lts.Closed (calls t) (paren-at t) reads.Post M
   meets = lts.spec (calls t) (paren-at t) reads.Post symbol-at-requires is-symbol-requires past-requires widen-requires is-symbol-requires-2 listed-requires same-length returns same-length-2 returns-2 returns-3

@@ -4,7 +4,7 @@ use Rattle.expr.proofs.Read.{after-e}
 use Rattle.joint.proofs.Taken.{ready-tested}
 use Rattle.joint.proofs.Loops.{ready-of}
 use Rattle.joint.proofs.Chain.{tok-then, called, part-then, part-stop}
-use Rattle.joint.proofs.Choices.{starts, or-first, or-next, or-none}
+use Rattle.joint.proofs.Choices.{starts, or-first, or-next, or-neither}
 use Rattle.leaves.specs.Contract.{Begun}
 use Rattle.pyhyeon.specs.Rules.{E}
 use Rattle.lookahead.proofs.Tests.{learnt}
@@ -128,7 +128,7 @@ module _ (t : ℕ) where
       let r = at-if1 .before .before .before .before .before .before .before .pre .1 .0 in
       let b = learnt firstE (at-if1 .if1 .left) (at-if1 .before .begins-e .ensures) (at-if1 .before .before .symbol-at .ensures) in
       let e = learnt (code.RParen ∷ []) (c .if2 .left) (c .before .is-symbol .ensures) (at-if1 .before .before .symbol-at .ensures) in
-      record { comes = λ vs. or-none (r .here) (r .used) b refl e refl }
+      record { comes = λ vs. or-neither (r .here) (r .used) b refl e refl }
 
   pub meets : {M : Type 1} → lts.Closed (calls t) (round-at t) reads.Post M
   meets = lts.spec (calls t) (round-at t) reads.Post symbol-at-requires begins-e-requires rule-e-requires enum-known-inner paren-requires enum-known-inner-2 is-symbol-requires past-requires unit-requires same-length returns same-length-2 returns-2 same-length-3 returns-3 returns-4
