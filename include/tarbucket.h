@@ -46,7 +46,8 @@ enum {
     TARBUCKET_ANSWER_WORDS = 6
 };
 
-/* The numbers. The first question that is answered by no decides; 14 to 16 are one question, does each token fit the grammar, and the token tells which. */
+/* The numbers. The first question that is answered by no decides; 14 to 16 are one question, does each token fit the grammar, and the token
+ * tells, with what could stand in its place, which. */
 enum {
     TARBUCKET_ACCEPTED = 0,
     TARBUCKET_TOO_LONG = 1,         /* more than 65,536 bytes; place 0 */

@@ -106,11 +106,11 @@ wrong "more wanted where a bracket can be closed" ending.rs 's/|bracket| self.fi
 wrong "a bracket closed where a value is missing" ending.rs 's/|bracket| self.fits(&\[bracket.closer as u8\])/|_| true/'
 wrong "a block at the script's end" ending.rs 's/line_number(self.src, header.start)/line_number(self.src, self.src.len())/'
 wrong "a block that is missing taken for one that was begun" ending.rs 's/{ "missing" } else/{ "not finished" } else/'
-wrong "a value that may be no value" ending.rs 's/if self.fits(b" None")/if true/'
+wrong "a value that may be no value" ending.rs "s/if self.fits(b.'')/if self.fits(b\"''\") || true/"
 wrong "a colon that does not fit" ending.rs 's/if self.fits(b":")/if true/'
 wrong "an empty tuple for each )" ending.rs 's/ && self.fits(b")")//'
 wrong "None for all that is missing" ending.rs 's/self.last() == "`return`"/true/'
-wrong "the script's end taken for a line's" ending.rs 's/None => misfit.end_of_script(),/None => "A value is missing at the end of this line.".to_string(),/'
+wrong "the script's end taken for a line's" ending.rs 's/None => format!("The script ends here, but {}.", .*/None => "A value is missing at the end of this line.".to_string(),/'
 wrong "a block's end within a line taken for the line's" ending.rs "s/Some(b'.n') => format/Some(_) => format/"
 wrong "a lambda's colon taken for a block's" before.rs 's/if self.lambdas > 0/if false/'
 wrong "a pair's colon taken for a block's" before.rs 's/b":" if self.open.is_empty()/b":"/'

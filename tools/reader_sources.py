@@ -132,7 +132,7 @@ def names():
 
 
 def order():
-    """The earliest in the source of 6 to 11, each before and behind the others; then 13, and 14 to 16, by the earliest token."""
+    """The earliest in the source of 6 to 11, each before and behind the others; then 13 and 14, by the earliest token."""
     causes = [b"\n\t", b"\n   a", b"\n  a\n a", b" $", b" 9223372036854775808", b" 1.0e24", b" \xe2\x82\xac", b" )"]
     for first in causes:
         for second in causes:

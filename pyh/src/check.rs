@@ -46,7 +46,7 @@ than two more, 8 back on no level, 9 no token (a character that means nothing, a
 string that is not closed), 10 a whole number out of range, 11 a number with a
 dot that is not read, 13 nested too deeply, 14 does not fit the grammar, 15 the
 script ends too early, 16 a value is missing at the end of a line, or where the
-script ends within a block; no script gets 12
+script ends within an indented block; no script gets 12
 
 In a name, bytes that are no UTF-8 are shown as in \\xE9, what no one sees as in
 \\n or \\u{1b}, a backslash as \\\\. In json the name is itself; where it is no

@@ -1,4 +1,4 @@
-//! The sentences for 15 and 16, where a script or a line ends too early, and for 14 where the script ends within a block.
+//! The sentences for 15 and 16, where a script or a line ends too early, and for 14 where the script ends within an indented block.
 use crate::excerpt::locate;
 use crate::misfit::Misfit;
 use crate::sentence::quoted;
@@ -9,14 +9,15 @@ const NAMED: usize = 4;
 
 /// The script ends, and what it began is not complete.
 pub fn cut(src: &[u8]) -> String {
-    format!("The script ends too early: {}.", Misfit::new(src, src.len()).lacking())
+    let misfit = Misfit::new(src, src.len());
+    format!("The script ends too early: {}.", misfit.lacking(misfit.next()))
 }
 
-/// A value is missing where a line ends, or the script within a block.
+/// A value is missing where a line ends, or the script within an indented block.
 pub fn missing(src: &[u8], place: usize) -> String {
     let misfit = Misfit::new(src, place);
     match src.get(place) {
-        None => misfit.end_of_script(),
+        None => format!("The script ends here, but {}.", misfit.lacking(Some(misfit.wanted("a value is missing")))),
         Some(b'\n') => format!("A value is missing at the end of this line, after {}{}.", misfit.last(), misfit.on_this_line()),
         // where a carriage return opens a line, blocks can end within it
         Some(_) => format!("The block ends here, but a value is missing after {}.", misfit.last()),
@@ -24,13 +25,13 @@ pub fn missing(src: &[u8], place: usize) -> String {
 }
 
 impl Misfit<'_> {
-    /// The script ends within a block.
+    /// The script ends within an indented block.
     pub fn end_of_script(&self) -> String {
         let end = self.src.len();
         if self.helps(end..end, b"\n") {
             return "The script ends here, but its last line must end with a line break.".to_string();
         }
-        format!("The script ends here, but {}.", self.lacking())
+        format!("The script ends here, but {}.", self.lacking(self.next()))
     }
 
     /// How the sentence on a value at the end of a line goes on.
@@ -47,9 +48,9 @@ impl Misfit<'_> {
         quoted(&self.src[self.before.last.clone()])
     }
 
-    /// What a script lacks that ends here, the innermost first.
-    fn lacking(&self) -> String {
-        let parts = [self.next(), self.brackets(), self.block()];
+    /// What a script lacks that ends here, the innermost first: what comes next, brackets, a block.
+    fn lacking(&self, next: Option<String>) -> String {
+        let parts = [next, self.brackets(), self.block()];
         parts.into_iter().flatten().collect::<Vec<String>>().join(", and ")
     }
 
@@ -63,14 +64,18 @@ impl Misfit<'_> {
         if innermost.is_some_and(|bracket| self.fits(&[bracket.closer as u8])) || self.before.colon == Some(self.before.last.start) {
             return None;
         }
-        let what = if self.fits(b" None") {
+        let what = if self.fits(b"''") {
             "a value is missing"
         } else if self.fits(b":") {
             "a `:` is missing"
         } else {
             "more was expected"
         };
-        Some(format!("{what} after {}", self.last()))
+        Some(self.wanted(what))
+    }
+
+    fn wanted(&self, what: &str) -> String {
+        format!("{what} after {}", self.last())
     }
 
     /// Which brackets are not closed; that of `()` has its own words above.

@@ -83,7 +83,7 @@ impl<'a> Misfit<'a> {
         let end = self.before.last.end;
         if end <= self.place - self.line.len() {
             "A blank line, or a comment alone, does not fit here: the methods of a class follow each other at once.".to_string()
-        } else if self.before.ends_with_tuple() && self.helps(end..end, b")") {
+        } else if self.before.ends_with_tuple() && self.fits(b")") {
             "`()` is no value: the empty tuple is written `())`.".to_string()
         } else if let Some(bracket) = self.before.open.last() {
             format!("The line ends inside brackets: {}.", bracket.on_one_line())

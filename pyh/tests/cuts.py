@@ -123,6 +123,8 @@ class Standing:
     def mended(self, sentence):
         """The text with what the sentence calls missing, if it says what that is."""
         remedy = None
+        if "its last line must end with a line break" in sentence:
+            return [self.text + "\n"]
         if re.search("a value is missing", sentence, re.I):
             remedy = " None"
         elif "a `:` is missing after" in sentence:

@@ -43,7 +43,7 @@ class|class A|a; (|a; b.|if a: (|if a: b.|def f(): [|for a in b: c(|while a: {|r
 COLONS = "if a:|while a:|for a in b:|def f():|def f(a, b):|class A:"
 
 BY_HAND = [
-    # what the team's reading of 02 says of single scripts
+    # single scripts, most of which stand in the lists below too
     ("x =", 15, 3), ("x =\n", 16, 3), ("()", 15, 2), ("f(\n", 14, 2), ("[1,\n", 14, 3), ("(\n", 14, 1), ("{\n", 14, 1), ("class A:\n", 15, 9),
     ("x[\n", 16, 2), ("{1:\n", 16, 3), ("not\n", 16, 3), ("return\n", 16, 6), ("lambda:\n", 16, 7), ("if a:\n  x =", 16, 11), ("lambda\n", 14, 6),
     ("a.\n", 14, 2), ("def f(\n", 14, 6), ("if a:\n  if b:", 14, 13), ("a-1", 14, 1),

@@ -33,7 +33,7 @@ pub enum Error {
     Misfit { place: u32, tokens: u32, openings: u32 },
     /// 15: the source ends too early, at its end; with T and the rules opened till then.
     Cut { place: u32, tokens: u32, openings: u32 },
-    /// 16: an expression or operand is missing where a line or block ends; with T and the rules opened till then.
+    /// 16: an expression or operand is missing where a line or block ends, at the start of its Newline or Dedent; with T and the rules opened till then.
     Missing { place: u32, tokens: u32, openings: u32 },
     /// A number that this version does not know, 12 among them.
     Unknown { number: u32, place: u32 },
