@@ -106,7 +106,7 @@ wrong "more wanted where a bracket can be closed" ending.rs 's/|bracket| self.fi
 wrong "a bracket closed where a value is missing" ending.rs 's/|bracket| self.fits(&\[bracket.closer as u8\])/|_| true/'
 wrong "a block at the script's end" ending.rs 's/line_number(self.src, header.start)/line_number(self.src, self.src.len())/'
 wrong "a block that is missing taken for one that was begun" ending.rs 's/{ "missing" } else/{ "not finished" } else/'
-wrong "a value that may be no value" ending.rs "s/if self.fits(b.'')/if self.fits(b\"''\") || true/"
+wrong "a value that may be no value" ending.rs "s/if self.fits(b.''.)/if true/"
 wrong "a colon that does not fit" ending.rs 's/if self.fits(b":")/if true/'
 wrong "an empty tuple for each )" ending.rs 's/ && self.fits(b")")//'
 wrong "None for all that is missing" ending.rs 's/self.last() == "`return`"/true/'
