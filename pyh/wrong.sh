@@ -1,6 +1,6 @@
 #!/bin/sh
-# Builds wrong copies of pyh: the stored cases must find each, and nothing in a copy that has no edit. It wants what pyh/test.sh wants, and over
-# twenty minutes.
+# Builds wrong copies of pyh: the stored cases must find each, and nothing in a copy that has no edit. It wants what pyh/test.sh wants, and about
+# half an hour.
 set -eu
 cd "$(dirname "$0")/.."
 rt staticlib ffi >/dev/null
