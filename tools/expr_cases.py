@@ -13,6 +13,7 @@ import sys
 
 sys.dont_write_bytecode = True
 sys.path.insert(0, os.path.join(os.path.dirname(os.path.abspath(__file__)), "reference"))
+import comma_cases  # noqa: E402
 import cut_cases  # noqa: E402
 import float_cases  # noqa: E402
 import generate  # noqa: E402
@@ -132,6 +133,7 @@ def sources():
     yield from generated()
     yield from float_cases.sources(float_cases.EXPRESSIONS)
     yield from (source for source, _, _ in cut())
+    yield from comma_cases.sources([*comma_cases.EXPRESSIONS, *comma_cases.REFUSED])
 
 
 def is_utf8(source):
@@ -159,6 +161,9 @@ def main():
     crate = sys.argv[1]
     for source, number, place in cut():
         assert expected(source)[0].startswith(f"no {number} {place} "), source
+    for text, nodes, tree in comma_cases.EXPRESSIONS:  # of N, all but the statement and Program
+        made = expected(text.encode())[1]
+        assert len(made) == nodes - 2 and KIND_NAMES[made[-1] - 1] == tree.split()[0], text
     kept = [source for source in dict.fromkeys(sources()) if is_utf8(source)]
     assert all(len(source) <= LONGEST_SOURCE for source in kept)
     text = "".join((source.hex() or "-") + "\n" for source in kept)

@@ -12,6 +12,7 @@ import sys
 
 import reader_sources as sources
 import check_answers
+import check_commas
 import cut_cases
 import name_cases
 from descent import descent
@@ -34,7 +35,7 @@ USUAL = ["000", "111", "000", "939"]
 # Each of the sources that EVERY names takes all of these: exact, each one short, several short or empty, longer.
 ALL = ["000", "-00", "0-0", "00-", "---", "0--", "-0-", "--0", "...", "0..", "99.", "9-9", "100", "010", "001", "999"]
 EVERY = [b"", b"a", b"\n", b"'x' + 'y'\n", b"a<b<c\n", b"if a:\n  b\n", b"class A:\n  def f(): 'a'\n", b"\xff", b"a'\xc3'", b"\t", b" ", b"  a\n ", b"'a' !",
-         b"9223372036854775808", b"1.0e24", b"'x' \xe2\x82\xac", b"\xed\x95\x9c = '\xc3\xa9'", b"(" * 65, b"'x' )", b"a-1", b"if a:\n  ", b"'x' +", b"'x' +\n"]
+         b"9223372036854775808", b"1.0e24", b"'x' \xe2\x82\xac", b"\xed\x95\x9c = '\xc3\xa9'", b"(" * 65, b"'x' )", b"a-1", b"if a:\n  ", b"'x' +", b"'x' +\n", b"'x', = 'y',\n"]
 
 
 # 1 to 4 at a smallest n.
@@ -131,6 +132,7 @@ def lists():
     yield "scanner", with_marks([*sources.scanner(), *sources.ill_formed(), *sources.order()])
     yield "names", with_marks(sources.names())
     yield "floats", with_marks(sources.floats())
+    yield "commas", with_marks(sources.commas())
     yield "limits", with_marks([source for source, _ in [*sources.nested(), *sources.mixed()]]) + with_marks(sources.longest(), ["000", "999"]) + at_the_limits()
     yield "generated", with_marks([*sources.generated(140, 11), *sources.soups(60, 12)])
     yield "damaged", with_marks(sources.damaged(300, 13))
@@ -149,10 +151,12 @@ def at_the_limits():
 def hold_to_the_paper():
     """What document 01 says itself: number and place of its scripts, the empty script's counts, the tree of `a<b<c` word by word; and what was counted or
     told by hand from the sentences of 01 and 02: openings and nodes written of some scripts, who is accepted, who is too deep, which script has which kind,
-    span, r and s of each Float of the scripts of float_cases, number and place of those of name_cases and cut_cases."""
+    span, r and s of each Float of the scripts of float_cases, N, kinds and spans of those of comma_cases, number and place of those of name_cases and cut_cases."""
     check_answers.scripts_of_01()
     check_answers.counted()
     check_answers.floats()
+    check_commas.by_hand()
+    check_commas.longest()
     for source, number in [*sources.nested(), *sources.mixed()]:
         assert expected(source, "000")[0].number == number, source
     for number, (source, marks) in enumerate(SMALLEST_SLICES, 1):

@@ -5,6 +5,7 @@ import sys
 
 sys.dont_write_bytecode = True
 sys.path.insert(0, os.path.join(os.path.dirname(os.path.abspath(__file__)), "reference"))
+import comma_cases  # noqa: E402
 import cut_cases  # noqa: E402
 import expr_cases  # noqa: E402
 import float_cases  # noqa: E402
@@ -77,13 +78,18 @@ def scripts(block):
 
 
 def expressions():
-    """Those of expr_cases, as scripts: what follows t is now asked for. The Floats among them too."""
+    """Those of expr_cases, as scripts: what follows t is now asked for. The Floats and commas among them too."""
     return list(dict.fromkeys(expr_cases.sources()))
 
 
 def floats():
     """Statements with a Float: parentheses and an assignment widen its node, and its r and s stay."""
     return float_cases.sources(float_cases.STATEMENTS)
+
+
+def commas():
+    """Statements with one E and a trailing comma in each place: a Tuple of one. N and trees are by hand."""
+    return comma_cases.sources(comma_cases.STATEMENTS)
 
 
 # Good scripts that are cut at every byte: written as those above.
@@ -186,6 +192,7 @@ def longest():
     yield from [[(b"[", 1), (b"'x',", MOST // 4 - 1), (b"  ]", 1)], [(b"if a:b\nelse:c\n#\n", MOST // 16)], [(b"a+b*c-d\n", MOST // 8)], [(b"0", MOST - 1), (b"\n", 1)]]
     yield from [[(b"\n", MOST - 1), (b")", 1)], [(b"\xc3\xa9", MOST // 2)], [(b"\xed\x95\x9c", MOST // 3), (b"a", 1)], [(b"\xf0\x90\x8c\x80", MOST // 4)], [(b"\xc3\xa9 ", MOST // 3), (b"a", 1)], [(b"#", MOST - 2), (b"\xc3\xa9", 1)], [(b"(", 64), (b")", MOST - 64)], [(b"(", MOST)]]
     yield from float_cases.sources(float_cases.LONGEST)
+    yield from (pieces for pieces, _, _ in comma_cases.LONGEST)
 
 
 def generated(count, seed, shortest=8, most=90):

@@ -7,6 +7,7 @@ import itertools
 import random
 import time
 
+import check_commas
 import check_cut
 import generate
 from check_answers import counted, floats, names, scripts_of_01, slices, utf8_places
@@ -24,7 +25,8 @@ def agree(tokens, shown):
     """Trial and descent on one token list; the descent's outcome."""
     count = len(tokens) - 1
     done = descent(tokens)
-    # "openings at most 10 T + 1, nodes at most 2 T + 1", in a refusal as well
+    # "openings at most 10 T + 1, nodes at most 2 T + 1", in a refusal as well; the second "must
+    # be shown to hold with them", the commas of 02
     assert done.openings <= 10 * count + 1, (shown, done)
     assert len(done.nodes) <= 2 * count + 1, (shown, done)
     # 13 is set aside: the trial's depth has no limit, so the descent runs on without one.
@@ -218,6 +220,10 @@ def main():
         ("UTF-8 places", utf8_places),
         ("names", names),
         ("Floats", floats),
+        ("commas by hand", check_commas.by_hand),
+        ("commas at the largest n", check_commas.longest),
+        ("the most nodes for so many tokens", check_commas.most_nodes),
+        ("commas in generated scripts", check_commas.in_generated),
         ("cut scripts by hand", check_cut.by_hand),
         ("what begins E and F, by the trial", check_cut.begins),
         ("what could stand, by the trial", check_cut.by_trial),

@@ -10,6 +10,7 @@ import generate
 import name_cases
 from characters import LATER, of_3_2
 from descent import descent
+from python_places import read_by_python
 from read import Answer, areas, program, read
 from scan import Code, Refusal, scan, utf8
 from tree import END, NONE, P, Q, R, S, START, Kind
@@ -71,7 +72,7 @@ def scripts_of_01():
     assert equal[P] == 7
     assert records[equal[Q]][0] == Kind.Unary and records[equal[Q]][P] == 1
     assert records[equal[R]][0] == Kind.Variable
-    accepted(b"1,", Kind.Int)
+    accepted(b"1,", Kind.Tuple)  # Int in 01; "Case `1,` becomes Tuple." (02)
     refused(b"if a:\n  b", 14, 9)
     accepted(b"if a:\n  b\n")
     records = accepted(b"if a:\n  ")
@@ -112,7 +113,15 @@ COUNTED = [
     (b"a < b <", 15, 7, 15, 3),
     (b"a < b <\n", 16, 7, 15, 3),
     (b"a, b )", 14, 5, 19, 4),
-    (b"a, )", 14, 3, 11, 2),
+    (b"a,", 0, 0, 11, 4),
+    (b"a, )", 14, 3, 11, 3),
+    (b"a,,", 14, 2, 11, 3),
+    (b"return a,", 0, 0, 11, 4),
+    (b"return a,,", 14, 9, 11, 3),
+    (b"a, = b,", 0, 0, 19, 6),
+    (b"a, =", 15, 4, 11, 2),
+    (b"a, =\n", 16, 4, 11, 2),
+    (b"a, = b, = c", 14, 8, 19, 5),
     (b"a, b = )", 14, 7, 19, 3),
     (b"a, b =\n", 16, 6, 19, 3),
     (b"x =", 15, 3, 11, 1),
@@ -258,19 +267,13 @@ def names():
 
 
 def floats_of_python(source):
-    """Start and end of each Float by CPython's own parser, or None where it refuses the source.
-    A carriage return would begin a line there, so it reads a space."""
-    try:
-        tree = ast.parse(source.replace(b"\r", b" "))
-    except SyntaxError:
+    """Start and end of each Float by CPython's own parser, or None where it refuses the source."""
+    by_python = read_by_python(source)
+    if by_python is None:
         return None
-    lines = [0, *itertools.accumulate(len(line) + 1 for line in source.split(b"\n"))]
-    places = []
-    for node in ast.walk(tree):
-        if isinstance(node, ast.Constant) and isinstance(node.value, float):
-            line = lines[node.lineno - 1]
-            places.append((line + node.col_offset, line + node.end_col_offset))
-    return sorted(places)
+    tree, span = by_python
+    return sorted(span(node) for node in ast.walk(tree)
+                  if isinstance(node, ast.Constant) and isinstance(node.value, float))
 
 
 def floats():

@@ -1,5 +1,6 @@
-"""The predictive descent of section "Grammar" of document 01: its statements, the whole,
-and questions 13 and 14. Openings, nodes and expressions are in descent_expressions.py.
+"""The predictive descent of section "Grammar" of document 01, with change 5 of document 02: its
+statements, the whole, and questions 13 and 14. Openings, nodes and expressions are in
+descent_expressions.py.
 """
 from collections import namedtuple
 
@@ -127,18 +128,19 @@ class Descent(ExpressionRules):
         return made
 
     def t(self):
-        """"t is E separated by commas, trailing allowed; one E alone stays that E, its comma
-        unseen in the span; more make a Tuple." """
+        """"t is E separated by commas, trailing allowed; one E alone stays that E, ..; more make
+        a Tuple." "One E with a trailing comma in return, assignment or expression is now a Tuple
+        of one whose span includes the comma." (02) """
         start = self.here()
         chain = Chain(self.nodes, self.open("E"))
-        several = False
+        if self.next() != Code.Comma:
+            return chain.first
         while self.next() == Code.Comma:
             self.at += 1
             if self.next() not in BEGINS_E:
                 break
-            several = True
             chain.add(self.open("E"))
-        return self.write_from(Kind.Tuple, start, chain.first) if several else chain.first
+        return self.write_from(Kind.Tuple, start, chain.first)
 
     def Block(self):
         """"Block, opened at its colon: one or more Newlines, Indent, Lines as in Program,

@@ -1,7 +1,7 @@
 """Generated scripts, each a function of a `random.Random` so that a seed fixes them.
 
-soup: words of the language in any order. script: a script of the grammar of document
-01, accepted unless it nests too deep. damaged: a copy with a few bytes altered.
+soup: words of the language in any order. script: a script of the grammar of documents 01
+and 02, accepted unless it nests too deep. damaged: a copy with a few bytes altered.
 nested: deep nesting of one sort.
 """
 
@@ -80,7 +80,7 @@ NESTED = ["blocks", "parentheses", "tuples", "lists", "braces", "pairs", "keys",
 
 
 def script(rng, lines=4, depth=2):
-    """A script that the grammar of 01 admits, with its whitespace and comments varied."""
+    """A script that the grammar of 01 and 02 admits, with its whitespace and comments varied."""
     return Writer(rng).program(lines, depth)
 
 
@@ -193,6 +193,9 @@ class Writer:
 
     def t(self):
         count = self.rng.choice((1, 1, 1, 2, 3))
+        if count == 1 and self.chance(0.3):
+            parts = self.rng.choice(ONE_AND_A_COMMA).split()
+            return [word for part in parts for word in (self.expr(1) if part == b"E" else [part])]
         return self.commas([self.expr(self.rng.choice((0, 1, 1, 2))) for _ in range(count)])
 
     def commas(self, members):
@@ -269,3 +272,5 @@ class Writer:
 
 
 SAFE = b"( ) [ ] { } , ; :".split()
+# "One E with a trailing comma" (02), alone and beside parentheses, which make a Tuple of one too.
+ONE_AND_A_COMMA = [b"E ,", b"E ,", b"( E ) ,", b"( E , ) ,", b"( ( E , ) , )"]

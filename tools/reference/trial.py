@@ -1,4 +1,5 @@
-"""The ordered trial of section "Grammar" of document 01: its statements, and the whole.
+"""The ordered trial of section "Grammar" of document 01, with change 5 of document 02: its
+statements, and the whole.
 
 "Depth has no limit. It accepts exactly when Program fits." What parts are and how
 they fail, and the expressions, are in trial_expressions.py.
@@ -89,13 +90,24 @@ class Trial(Expressions):
             lambda: word(Code.Pass, Kind.Pass))
 
     def t(self):
-        """"t is E separated by commas, trailing allowed; one E alone stays that E, its
-        comma unseen in the span; more make a Tuple." """
+        """"t is E separated by commas, trailing allowed; one E alone stays that E, ..; more
+        make a Tuple." "One E with a trailing comma .. is now a Tuple of one whose span includes
+        the comma"; "ordered trial gets the same alternative" (02): behind the longer one, and
+        before E alone."""
         first = self.at
-        members = self.separated(self.e, Code.Comma)
-        if len(members) == 1:
-            return members[0]
-        return self.node(Kind.Tuple, *self.span(first), self.chain(members))
+
+        def several():
+            members = [self.e()]
+            self.ask(Code.Comma)
+            members += self.separated(self.e, Code.Comma)
+            return self.node(Kind.Tuple, *self.span(first), self.chain(members))
+
+        def one():
+            member = self.e()
+            self.ask(Code.Comma)
+            return self.node(Kind.Tuple, *self.span(first), self.chain([member]))
+
+        return self.choice(several, one, self.e)
 
     def block(self):
         """"Block, opened at its colon: one or more Newlines, Indent, Lines as in Program,

@@ -1,10 +1,10 @@
 -- Parts of the rules that a function has for itself. Only contracts of private functions cite these: each is a part of a rule's body
--- (specs/Rules.antt and Tables.antt of pyhyeon); but `listedOn` of a Tuple begins at its first comma, and comes to the same there
+-- (specs/Rules.antt and Tables.antt of pyhyeon); but `tOn`, and `listedOn` of a Tuple, begin at its first comma, and come to the same there
 -- (`list-parts`, joint/proofs/Chain.antt).
 -- Assumes nothing.
 use Prim.Native.Nat.{ℕ}
 use mathlib.Core.Bool.{Bool, true, false}
-use Rattle.grammar.specs.Grammar.{Part, skip, act, tok, call, _⨾_, _∕_, tail}
+use Rattle.grammar.specs.Grammar.{Part, act, tok, call, _⨾_, _∕_, tail}
 use Rattle.token.specs.Code.{LBrace, RBrace, RParen, RBracket, Colon, Comma}
 use Rattle.ast.specs.Kind as kind
 use Rattle.pyhyeon.specs.Action.{Action, mark, named, list-one, list-done, enclose, group, tuple, pair, apply, index, lambda}
@@ -62,6 +62,6 @@ callOn = list ⨾ tk RParen ⨾ act apply
 abbrev pub indexOn : Part Action Rule
 indexOn = call E ⨾ tk RBracket ⨾ act index
 
--- after the first comma of t
+-- t from its first comma on
 abbrev pub tOn : Part Action Rule
-tOn = act list-one ⨾ more (call E) ⨾ others false ⨾ act tuple ∕ skip
+tOn = others false ⨾ act tuple

@@ -4,7 +4,7 @@ use mathlib.Core.Path.{_≡_, refl, sym, subst}
 use mathlib.Core.Bool.{Bool, true, false, cond}
 use mathlib.Core.List.{List, [], _∷_}
 use mathlib.Core.Logic.{_⊎_, inl, inr}
-use Prim.Native.Nat.{ℕ, zero, suc, _+_, _-_, _*_, _≤_, _<_}
+use Prim.Native.Nat.{ℕ, zero, suc, _+_, _-_, _≤_}
 use native.Mathlib.Omega.{arith}
 use lib.Dec.{ltb}
 use lib.ListN.{length, getD, drop, length-drop}
@@ -21,12 +21,12 @@ use Rattle.lexer.specs.Scan.{Scan, scanned, refused, tokenList}
 use Rattle.lexer.proofs.Properties.{Each, Each.none, Each.more, Spanned}
 use Rattle.lexer.proofs.Laws.{tokens-spanned}
 use Rattle.lexer.proofs.Refusals.{refusals}
-use Rattle.pyhyeon.specs.Action.{tokenAt, machine}
+use Rattle.pyhyeon.specs.Action.{machine}
 use Rattle.pyhyeon.specs.Rules.{Program}
 use Rattle.pyhyeon.specs.Tables.{depth, pyhyeon}
 use Rattle.pyhyeon.specs.Reading.{Descended, Accepted, TooDeep, Misfit, placeOf, start, descended, descent}
 use Rattle.reader.specs.Answer.{numbersOf, written}
-use Rattle.reader.specs.Outcome.{Outcome, untouched, ofDescent, ofScan, ofUtf8, treeArea, outcome}
+use Rattle.reader.specs.Outcome.{untouched, ofDescent, ofScan, ofUtf8, treeArea, outcome}
 use Rattle.reader.specs.Reads.{Reads}
 use Rattle.reader.specs.declared.Answer.{Answer}
 use Rattle.reader.specs.declared.Answer.the-variants.{Tree, No, Stopped}

@@ -52,22 +52,16 @@ module _ {Act : Type 0} {M : Machine Act} where
   pub factor-more : (p a b c : Parser M) → altP (seqP p a) (altP (seqP p b) c) ≡ altP (seqP p (altP a b)) c
   factor-more p a b c = sym (alt-assoc (seqP p a) (seqP p b) c) ∙ ap (λ (q : Parser M). altP q c) (factor p a b)
 
-  -- p a / p is p (a / nothing)
-  then-skip : (o : Out M) → andThen o skipP ≡ o
-  unfolding andThen skipP
-  then-skip (ok s) = refl
-  then-skip fail = refl
-  then-skip out = refl
+  -- (p or nothing) and an action is p and it / it alone, since an action never fails
+  skip-at : (d : Act) (o : Out M) (s : St M) → andThen (orElse o skipP s) (actP d) ≡ orElse (andThen o (actP d)) (actP d) s
+  unfolding andThen orElse skipP actP
+  skip-at d (ok s′) s = refl
+  skip-at d fail s = refl
+  skip-at d out s = refl
 
-  seq-skip : (p : Parser M) → seqP p skipP ≡ p
-  unfolding seqP
-  seq-skip p = fun-ext (λ s. then-skip (p s))
-
-  pub factor-end : (p a : Parser M) → altP (seqP p a) p ≡ seqP p (altP a skipP)
-  factor-end p a = ap (λ (q : Parser M). altP (seqP p a) q) (sym (seq-skip p)) ∙ factor p a skipP
-
-  pub factor-end-more : (p a c : Parser M) → altP (seqP p a) (altP p c) ≡ altP (seqP p (altP a skipP)) c
-  factor-end-more p a c = sym (alt-assoc (seqP p a) p c) ∙ ap (λ (q : Parser M). altP q c) (factor-end p a)
+  pub skip-act : (p : Parser M) (d : Act) → seqP (altP p skipP) (actP d) ≡ altP (seqP p (actP d)) (actP d)
+  unfolding seqP altP
+  skip-act p d = fun-ext (λ s. skip-at d (p s) s)
 
   -- a / b / (p or nothing) y is a / b / p y, where y cannot follow at once once a has failed
   else-fail : (o : Out M) (q : Parser M) (s : St M) → orElse o q s ≡ fail → o ≡ fail
@@ -176,4 +170,4 @@ module _ {Act : Type 0} {M : Machine Act} where
   pub split-tok : (c d : ℕ) (set : List ℕ) (q : Parser M) → mem c (d ∷ set) ≡ false → seqP (takeP (c ∷ d ∷ set)) q ≡ altP (seqP (takeP (c ∷ [])) q) (seqP (takeP (d ∷ set)) q)
   split-tok c d set q n = fun-ext (λ s. split-at c d set q n (s .rest) (s .kept))
 
-pub ruleset join = (seq-assoc, alt-assoc, factor, factor-more, factor-end, factor-end-more, shut-first, shut-next)
+pub ruleset join = (seq-assoc, alt-assoc, factor, factor-more, shut-first, shut-next)

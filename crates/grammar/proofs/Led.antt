@@ -8,7 +8,7 @@ use native.Mathlib.Omega.{arith}
 use lib.Dec.{T, eqb, eqb-refl, ltb→lt}
 use lib.ListN.{length}
 use Rattle.grammar.specs.Sets.{mem, sees}
-use Rattle.grammar.specs.Grammar.{Part, tok, _⨾_, many}
+use Rattle.grammar.specs.Grammar.{Part, tok, _⨾_}
 use Rattle.grammar.specs.Trial.{Machine, St, Out, ok, fail, Parser, andThen, orElse, orStay, seqP, altP, loop, manyP, skipP, takeFrom, takeP, seeP, actP, tailP, eval, enough, parse}
 use Rattle.grammar.specs.Descent.{Plan, null, begins}
 use Rattle.grammar.specs.Check.{next, fits, takes, after, low}

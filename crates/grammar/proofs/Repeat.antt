@@ -7,7 +7,7 @@ use Prim.Native.Nat.{ℕ, zero, suc, _<_}
 use native.Mathlib.Omega.{arith}
 use lib.Dec.{T}
 use lib.ListN.{length}
-use Rattle.grammar.specs.Sets.{mem, sees}
+use Rattle.grammar.specs.Sets.{mem}
 use Rattle.grammar.specs.Trial.{Machine, St, Out, ok, Parser, andThen, orStay, seqP, altP, loop, manyP, okIf, takeFrom, takeP, actP}
 use Rattle.grammar.proofs.Sets.{Sees}
 use Rattle.grammar.proofs.Begin.{On, on-ok, on-fail, on-out, on-then, any}

@@ -15,7 +15,7 @@ use Rattle.grammar.specs.Trial.{Machine, St, Out, ok, fail, out, Parser,
 use Rattle.grammar.specs.Descent.{Plan, Answer, done, no, deep, descend}
 use Rattle.grammar.specs.Check.{sound, idle, stops}
 use Rattle.grammar.proofs.Sets.{Sees, and-l, and-r, or-e, sees-within}
-use Rattle.grammar.proofs.Begin.{On, on-ok, on-fail, on-out, any, on-then, on-else, on-if}
+use Rattle.grammar.proofs.Begin.{On, on-ok, any, on-then, on-else, on-if}
 use Rattle.grammar.proofs.Agree.{Agree, met, both-no, too-deep, stray}
 use Rattle.grammar.proofs.Whole.{Sound, tested, agrees-rule}
 use Rattle.grammar.proofs.Step.{descent-answers}

@@ -18,7 +18,8 @@ pub record Plan (Act R : Type 0) : Type 0 where
   pub opens : R → Bool  -- it takes of the room for depth
 
 -- What the descent comes to, each with the count of openings so far: `done`, a state; `no`, where the next token of the state does not fit, with the tokens
--- of which one was asked for there (more could stand: a repeated part, or one that may be absent, asks for none); `deep`, refusal 13, where the next token would open one rule too many within one another.
+-- of which one was asked for there (more could stand: a repeated part, or one that may be absent, asks for none); `deep`, refusal 13, where the next token
+-- would open one rule too many within one another.
 -- `stuck` is for the trial's `out`, and never comes where the count suffices.
 pub data Answer {Act : Type 0} (M : Machine Act) : Type 0 where
   done : ℕ → St M → Answer M
@@ -75,7 +76,8 @@ module _ {Act : Type 0} {M : Machine Act} where
   byD true p q n s = p n s
   byD false p q n s = q n s
 
-  -- p or q, by what the next token can begin (q may need none); where it can begin neither, a token of either was asked for: this set
+  -- "decides by the next token" (01, Grammar): p or q, by what that can begin (q may need none); where it can begin neither, a token of either was asked
+  -- for: this set
   unfoldable pub orD : Bool → Bool → List ℕ → Walk M → Walk M → Walk M
   orD true b set p q n s = p n s
   orD false true set p q n s = q n s

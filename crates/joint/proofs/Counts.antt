@@ -9,7 +9,7 @@ use lib.Dec.{T, leb, ltb, leb→le, ltb→lt}
 use lib.ListN.{drop}
 use Rattle.grammar.specs.Sets.{mem}
 use Rattle.grammar.specs.Grammar.{Part, call}
-use Rattle.grammar.specs.Descent.{done, no, byD, walk, descend}
+use Rattle.grammar.specs.Descent.{done, byD, walk, descend}
 use Rattle.grammar.specs.Check.{takes, low}
 use Rattle.grammar.specs.Limits.{before, clean, credit, afford}
 use Rattle.grammar.proofs.Tokens.{before-drop}

@@ -1,8 +1,8 @@
 -- The characters of a name: their length, as `raw_token` takes it, is that of the longest word of such characters at the front.
 -- Assumes nothing.
-use mathlib.Core.Path.{_≡_, refl, sym, ap, _∙_}
-use mathlib.Core.Bool.{Bool, true, false, cond, _||_, true≢false}
-use mathlib.Core.List.{List, [], _∷_, _++_, append-assoc, append-nil}
+use mathlib.Core.Path.{_≡_, refl, ap, _∙_}
+use mathlib.Core.Bool.{Bool, true, false, cond}
+use mathlib.Core.List.{List, [], _∷_, _++_, append-assoc}
 use Prim.Native.Nat.{ℕ, zero, suc, _+_, _<_, _≤_, zero-le, suc-le-suc}
 use native.Mathlib.Nat.{le-refl, zero-add, add-zero}
 use native.Mathlib.Omega.{arith}
@@ -12,7 +12,7 @@ use lib.Seq.{take-add, take-append-seam, drop-append-seam}
 use borrow.Author.Tests.{leb-false}
 use Rattle.source.proofs.Bools.{or-left, or-right}
 use Rattle.utf8.specs.Table.{sequenceLength}
-use Rattle.utf8.specs.Character.{codePoint, firstCode}
+use Rattle.utf8.specs.Character.{firstCode}
 use Rattle.raw_token.specs.Pattern as P
 use Rattle.raw_token.specs.Pattern.{beginsName, continuesName, many}
 use Rattle.raw_token.specs.Parts.{asciiBegins}

@@ -5,8 +5,8 @@ use mathlib.Core.Path.{_≡_, refl, ap}
 use mathlib.Core.List.{List, [], _∷_, _++_, map, map-append}
 use Prim.Native.Nat.{ℕ, suc, _<_}
 use lib.ListN.{length}
-use Rattle.grammar.specs.Trial.{St, Out, ok, fail, out, eval, parse}
-use Rattle.grammar.specs.Descent.{Answer, done, no, deep, stuck, walk, enter, descend}
+use Rattle.grammar.specs.Trial.{St, Out, fail, out, eval, parse}
+use Rattle.grammar.specs.Descent.{Answer, no, stuck, walk, enter, descend}
 use Rattle.grammar.proofs.Top.{Verdict}
 use Rattle.grammar.proofs.Top as top
 use Rattle.grammar.proofs.Step as step

@@ -2,15 +2,14 @@
 -- Assumes nothing.
 use mathlib.Core.Path.{_≡_, refl, ap, _∙_}
 use mathlib.Core.List.{List, [], _∷_}
-use lib.Dec.{T}
-use Rattle.grammar.specs.Grammar.{Part, skip, act, tok, call, _⨾_, _∕_, many, tail}
+use Rattle.grammar.specs.Grammar.{Part, act, tok, _⨾_, _∕_, many}
 use Rattle.grammar.specs.Trial.{Machine, Parser, seqP, altP, takeP, eval}
 use Rattle.grammar.proofs.Factor.{join, split-tok, swap}
 use Rattle.token.specs.Code.{Identifier, LBracket, RBracket, LBrace, RBrace, LParen}
 use Rattle.pyhyeon.specs.Symbol.{Tee}
 use Rattle.ast.specs.Kind as kind
 use Rattle.pyhyeon.specs.Action.{Action, mark, literal, named, enclose}
-use Rattle.pyhyeon.specs.Rules.{Rule, E, F, tk, list, literals, postfix, plain}
+use Rattle.pyhyeon.specs.Rules.{Rule, F, tk, list, literals, postfix, plain}
 use Rattle.pyhyeon.specs.Tables.{braces, round, joined}
 
 abbrev variable : Part Action Rule

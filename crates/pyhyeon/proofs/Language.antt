@@ -5,13 +5,13 @@ use lib.Dec.{T}
 use Rattle.grammar.specs.Trial.{Machine, St, Parser, eval, parse}
 use Rattle.grammar.specs.Descent.{null, begins, descend}
 use Rattle.grammar.specs.Check.{fits, takes, low, sound, tight, idle, stops}
-use Rattle.grammar.proofs.Factor.{join}
+use Rattle.grammar.proofs.Factor.{join, skip-act}
 use Rattle.grammar.proofs.Repeat.{once, between-parts}
 use Rattle.grammar.proofs.Top.{Language, Verdict}
 use Rattle.grammar.proofs.Top as top
 use Rattle.pyhyeon.specs.Action.{Action}
-use Rattle.pyhyeon.specs.Rules.{Rule, Program, Line, Simple, Block, Class, E, O, A, C, S, P, U, F, plain}
-use Rattle.pyhyeon.specs.Tables.{joined, first, follow, least, rank, opens, depth, pyhyeon}
+use Rattle.pyhyeon.specs.Rules.{Rule, Program, Line, Simple, Block, Class, E, O, A, C, S, P, U, F, plain, t}
+use Rattle.pyhyeon.specs.Tables.{joined, first, follow, least, rank, opens, depth, pyhyeon, tJoined}
 use Rattle.pyhyeon.proofs.Factors.{alikeF}
 
 passes : (r : Rule) → T (sound pyhyeon r)
@@ -47,11 +47,16 @@ tightly P = tt
 tightly U = tt
 tightly F = tt
 
+-- t, whose three alternatives the descent takes together
+alike-t : {M : Machine Action} (env : Rule → Parser M) → eval env t ≡ eval env tJoined
+unfolding eval
+alike-t env = simp (join, skip-act)
+
 alike : {M : Machine Action} (env : Rule → Parser M) (r : Rule) → eval env (plain r) ≡ eval env (joined r)
 unfolding eval plain joined
 alike env Program = simp (join, once, between-parts)
 alike env Line = refl
-alike env Simple = simp join
+alike env Simple = rw (alike-t env) (simp join)
 alike env Block = simp (join, between-parts)
 alike env Class = refl
 alike env E = refl

@@ -8,6 +8,7 @@ pub mod Held
 pub mod Sorts
 pub mod Starred
 pub mod Samples
+pub mod Trailing
 pub mod Cut
 pub mod Late
 pub mod Missing

@@ -3,12 +3,12 @@
 use mathlib.Core.Path.{_≡_, refl, _∙_}
 use mathlib.Core.Bool.{not}
 use mathlib.Core.List.{List, [], _∷_, _++_, map, map-append}
-use Prim.Native.Nat.{ℕ, _+_, _*_, _≤_}
+use Prim.Native.Nat.{ℕ, _+_}
 use native.Mathlib.Omega.{arith}
 use lib.Dec.{T}
 use lib.ListN.{length}
 use Rattle.grammar.specs.Sets.{mem}
-use Rattle.grammar.specs.Descent.{Answer, descend}
+use Rattle.grammar.specs.Descent.{Answer}
 use Rattle.grammar.specs.Check.{takes, low}
 use Rattle.grammar.specs.Limits.{before, clean, credit, afford, spare, modest}
 use Rattle.grammar.proofs.Ends.{Ends, ends-done, ends-no, ends-deep, ends-stuck}
@@ -18,10 +18,9 @@ use Rattle.grammar.proofs.Limits as all
 use Rattle.token.specs.Code.{Eof}
 use Rattle.tokens.specs.Token.{Token}
 use Rattle.pyhyeon.specs.Symbol.{symbol, symbols}
-use Rattle.pyhyeon.specs.Machine.{Kept, blank}
 use Rattle.pyhyeon.specs.Action.{machine}
 use Rattle.pyhyeon.specs.Rules.{Rule, Program, Line, Simple, Block, Class, E, O, A, C, S, P, U, F, plain}
-use Rattle.pyhyeon.specs.Tables.{joined, first, follow, least, rank, depth, pyhyeon}
+use Rattle.pyhyeon.specs.Tables.{joined, first, least, rank, depth, pyhyeon}
 use Rattle.pyhyeon.specs.Prices.{writes, needs, gives, prices}
 use Rattle.pyhyeon.specs.Reading.{Limited, start, descended, descent, workOf}
 use Rattle.pyhyeon.proofs.Agreement.{map-length}

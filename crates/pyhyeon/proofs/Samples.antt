@@ -1,4 +1,4 @@
--- Further scripts, computed by the checker: 01's likely slips, and every kind of node. Their token lists are written out by hand.
+-- Further scripts, computed by the checker: 01's likely slips, every kind of node, and what 02's changes 3 and 5 say. Their token lists are written out by hand.
 -- Assumes nothing.
 use Prim.Native.Nat.{ℕ, zero, suc, _+_}
 use mathlib.Core.Path.{_≡_, refl}
@@ -48,11 +48,11 @@ record Samples : Type 0 where
       ∷ tok Newline 25 26 ∷ tok Eof 26 26 ∷ [])
       (Accepted (work 14 48 (variable 3 ∷ variable 6 ∷ made kind.Expr 6 7 1 0 0 0 ∷ variable 13 ∷ variable 16 ∷ made kind.Expr 16 17 4 0 0 0 ∷ made kind.Elif 8 18 3 5 0 0 ∷ variable 24
       ∷ made kind.Expr 24 25 7 0 0 0 ∷ made kind.Else 18 26 8 0 0 0 ∷ made kind.If 0 26 0 2 6 9 ∷ made kind.Program 0 26 10 0 0 0 ∷ [])))
-  -- Def, with two names and a trailing comma; a trailing comma of t
+  -- Def, with two names and a trailing comma; a Tuple of one behind return
   definitions : Comes (bytes "def f(a, b,): return a,\n")
       (tok Def 0 3 ∷ a 4 ∷ tok LParen 5 6 ∷ a 6 ∷ tok Comma 7 8 ∷ a 9 ∷ tok Comma 10 11 ∷ tok RParen 11 12 ∷ tok Colon 12 13 ∷ tok Return 14 20 ∷ a 21 ∷ tok Comma 22 23 ∷ tok Newline 23 24 ∷ tok Eof 24 24 ∷ [])
-      (Accepted (work 13 12 (linked 1 (made kind.Name 6 7 6 7 0 0) ∷ made kind.Name 9 10 9 10 0 0 ∷ variable 21 ∷ made kind.Return 14 23 2 0 0 0 ∷ made kind.Def 0 24 4 5 0 3
-      ∷ made kind.Program 0 24 4 0 0 0 ∷ [])))
+      (Accepted (work 13 12 (linked 1 (made kind.Name 6 7 6 7 0 0) ∷ made kind.Name 9 10 9 10 0 0 ∷ variable 21 ∷ made kind.Tuple 21 23 2 0 0 0 ∷ made kind.Return 14 23 3 0 0 0
+      ∷ made kind.Def 0 24 4 5 0 4 ∷ made kind.Program 0 24 5 0 0 0 ∷ [])))
   -- pairs before a list in braces, `{}` a Dict, t{list}, and `t` as a name
   braces : Comes (bytes "[{a: b}, {c}, {}, t{d}, t]")
       (tok LBracket 0 1 ∷ tok LBrace 1 2 ∷ a 2 ∷ tok Colon 3 4 ∷ a 5 ∷ tok RBrace 6 7 ∷ tok Comma 7 8 ∷ tok LBrace 9 10 ∷ a 10 ∷ tok RBrace 11 12 ∷ tok Comma 12 13 ∷ tok LBrace 14 15
@@ -65,6 +65,15 @@ record Samples : Type 0 where
       (tok LParen 0 1 ∷ a 1 ∷ tok RParen 2 3 ∷ tok Comma 3 4 ∷ tok LParen 5 6 ∷ a 6 ∷ tok Comma 7 8 ∷ tok RParen 8 9 ∷ tok Comma 9 10 ∷ tok Eof 10 10 ∷ [])
       (Accepted (work 9 35 (linked 2 (made kind.Variable 0 3 1 2 0 0) ∷ variable 6 ∷ made kind.Tuple 5 9 1 0 0 0 ∷ made kind.Tuple 0 10 0 0 0 0 ∷ made kind.Expr 0 10 3 0 0 0
       ∷ made kind.Program 0 10 4 0 0 0 ∷ [])))
+  -- a Tuple of one on either side: the target takes the statement's span, the value ends with its comma (02, change 5)
+  sides : Comes (bytes "a, = b,") (a 0 ∷ tok Comma 1 2 ∷ tok Equal 3 4 ∷ a 5 ∷ tok Comma 6 7 ∷ tok Eof 7 7 ∷ [])
+      (Accepted (work 5 19 (variable 0 ∷ made kind.Tuple 0 7 0 0 0 0 ∷ variable 5 ∷ made kind.Tuple 5 7 2 0 0 0 ∷ made kind.Assign 0 7 1 3 0 0 ∷ made kind.Program 0 7 4 0 0 0 ∷ [])))
+  -- and as the value of a target that is none
+  value : Comes (bytes "a = b,") (a 0 ∷ tok Equal 2 3 ∷ a 4 ∷ tok Comma 5 6 ∷ tok Eof 6 6 ∷ [])
+      (Accepted (work 4 19 (made kind.Variable 0 6 0 1 0 0 ∷ variable 4 ∷ made kind.Tuple 4 6 1 0 0 0 ∷ made kind.Assign 0 6 0 2 0 0 ∷ made kind.Program 0 6 3 0 0 0 ∷ [])))
+  -- a second comma: 14 there
+  commas : Comes (bytes "a,,") (a 0 ∷ tok Comma 1 2 ∷ tok Comma 2 3 ∷ tok Eof 3 3 ∷ [])
+      (Misfit Fault.wrong 2 (work 3 11 (variable 0 ∷ made kind.Tuple 0 2 0 0 0 0 ∷ made kind.Expr 0 2 1 0 0 0 ∷ [])))
   -- a class with a method; Return, Lambda, Attribute, Call and Index
   classes : Comes (bytes "class A:\n  def f(x): return lambda: x.y(1)[0]\n")
       (tok Class 0 5 ∷ a 6 ∷ tok Colon 7 8 ∷ tok Newline 8 9 ∷ tok Indent 9 11 ∷ tok Def 11 14 ∷ a 15 ∷ tok LParen 16 17 ∷ a 17 ∷ tok RParen 18 19 ∷ tok Colon 19 20 ∷ tok Return 21 27
@@ -103,6 +112,9 @@ samples = record {
   definitions = record { descends = refl; tries = refl; fields = tt };
   braces = record { descends = refl; tries = refl; fields = tt };
   tuples = record { descends = refl; tries = refl; fields = tt };
+  sides = record { descends = refl; tries = refl; fields = tt };
+  value = record { descends = refl; tries = refl; fields = tt };
+  commas = record { descends = refl; tries = refl; fields = tt };
   classes = record { descends = refl; tries = refl; fields = tt };
   loops = record { descends = refl; tries = refl; fields = tt };
   signs = record { descends = refl; tries = refl; fields = tt };

@@ -4,19 +4,17 @@ use mathlib.Core.Path.{_≡_, refl, ap, _∙_}
 use mathlib.Core.List.{List, [], _∷_, _++_, map}
 use Prim.Native.Nat.{ℕ, zero, suc, _+_}
 use lib.ListN.{length, getD, drop}
-use Rattle.grammar.specs.Trial.{St}
-use Rattle.grammar.specs.Descent.{Answer, descend}
+use Rattle.grammar.specs.Descent.{descend}
 use Rattle.grammar.specs.Flow.{bind, where-same, strip, alike, effect, again, flow, Flows}
 use Rattle.grammar.proofs.Ends.{Ends}
 use Rattle.grammar.proofs.Flow.{descend-leaves}
 use Rattle.tokens.specs.Token.{Token}
-use Rattle.ast.specs.Node.{Node}
-use Rattle.pyhyeon.specs.Machine.{Value, token, node, signs, growing, list, chain, Kept, number, count, one, both, whole, top, put, write}
-use Rattle.pyhyeon.specs.Action.{Action, mark, literal, named, alone, signs-none, signs-more, unary, binary, compare, compare-more, compared, list-none, list-one, list-join, list-done, enclose, empty, group, tuple, pair, attribute, apply, index, lambda, expr, assign, return, branch, elif, else, while, for, define, class, program, wrap, bare, perform, machine}
+use Rattle.pyhyeon.specs.Machine.{Value, token, node, signs, growing, list, chain, Kept, number, count, one, both, whole, top}
+use Rattle.pyhyeon.specs.Action.{Action, mark, literal, named, alone, signs-none, signs-more, unary, binary, compare, compare-more, compared, list-none, list-one, list-join, list-done, enclose, empty, group, tuple, pair, attribute, apply, index, lambda, expr, assign, return, branch, elif, else, while, for, define, class, program, wrap, bare, perform}
 use Rattle.pyhyeon.specs.Rules.{Rule, Program, Line, Simple, Block, Class, E, O, A, C, S, P, U, F, plain}
 use Rattle.pyhyeon.specs.Tables.{joined, depth, pyhyeon}
 use Rattle.pyhyeon.specs.Reading.{start}
-use Rattle.pyhyeon.specs.Sorts.{Sort, a-token, a-node, a-signs, a-growing, a-list, a-chain, same-sort, sortOf, sorts, taking, leaving, effects}
+use Rattle.pyhyeon.specs.Sorts.{Sort, a-token, a-node, a-signs, a-growing, a-chain, same-sort, sortOf, sorts, taking, leaving, effects}
 
 -- the rules, as the trial and as the descent take them
 pub plain-flows : (r : Rule) → Flows same-sort effects plain r

@@ -1,19 +1,17 @@
 -- The starred scripts of 01, computed by the checker.
 -- Assumes nothing.
-use mathlib.Core.Path.{_≡_, refl}
-use mathlib.Core.List.{List, []}
-use Prim.Native.Nat.{ℕ}
+use mathlib.Core.Path.{refl}
+use mathlib.Core.List.{[]}
 use Rattle.grammar.specs.Trial.{andThen, orElse, orStay, seqP, altP, loop, manyP, skipP, okIf, takeFrom, takeP, seeP, actP, tailP, eval, rule, enough, parse}
 use Rattle.grammar.specs.Descent.{null, begins, thenD, sameD, seqD, byD, orD, loopD, tailD, manyD, listD, walk, enter, ruleD, descend}
 use Rattle.source.specs.Text.{bytes}
 use Rattle.lexer.proofs.Computed.{computed, is-list}
-use Rattle.tokens.specs.Token.{Token}
 use Rattle.pyhyeon.specs.Symbol.{symbols}
 use Rattle.pyhyeon.specs.Action.{perform}
 use Rattle.pyhyeon.specs.Rules.{plain}
 use Rattle.pyhyeon.specs.Tables.{joined, first, opens}
-use Rattle.pyhyeon.specs.Reading.{Descended, start, descent, trial}
-use Rattle.pyhyeon.specs.Starred.{Starred, Printed, Comes}
+use Rattle.pyhyeon.specs.Reading.{start, descent, trial}
+use Rattle.pyhyeon.specs.Starred.{Starred, Printed}
 
 pub starred : Starred
 unfolding computed andThen orElse orStay seqP altP loop manyP skipP okIf takeFrom takeP seeP actP tailP eval rule enough parse null begins thenD sameD seqD byD orD loopD tailD manyD listD walk enter ruleD descend symbols perform plain joined first opens start descent trial

@@ -3,7 +3,7 @@
 -- Assumes nothing.
 use Prim.Native.Nat.{ℕ, zero, suc, _+_}
 use mathlib.Core.List.{List}
-use lib.ListN.{length, getD, drop}
+use lib.ListN.{length, getD}
 use Rattle.grammar.specs.Trial.{Machine}
 use Rattle.token.specs.Code as token
 use Rattle.literal.specs.declared.Literal.the-variants as L
@@ -12,7 +12,7 @@ use Rattle.ast.specs.Kind as kind
 use Rattle.ast.specs.Node.{Node, none, made, linked, spanned}
 use Rattle.ast.specs.Literal.{literalNode}
 use Rattle.ast.specs.Operator.{unaryOp, binaryOp}
-use Rattle.pyhyeon.specs.Machine.{Value, node, signs, growing, list, chain, Kept, number, count, last, operand, one, both, whole, top, taken, put, write, nth, change}
+use Rattle.pyhyeon.specs.Machine.{Value, node, signs, list, chain, Kept, number, count, last, operand, one, both, whole, top, taken, put, write, nth, change}
 use Rattle.pyhyeon.specs.Machine as value
 
 -- The values that an action takes are named first, the one that came last to hand last. All but `mark`, `compared`, `group` and those

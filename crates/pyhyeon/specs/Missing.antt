@@ -27,7 +27,7 @@ asksOperand asked = within firstF asked && within asked firstE
 abbrev pub lineEnds : List ℕ
 lineEnds = Newline ∷ Dedent ∷ []
 
--- what one of them tells where one of these tokens was asked for
+-- what one of them tells where one of these tokens was asked for: "met where only an expression or operand could stand, another; 14 remains for all else"
 abbrev pub askedFault : List ℕ → Fault
 askedFault asked = cond (asksOperand asked) missing wrong
 

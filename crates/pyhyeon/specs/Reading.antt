@@ -1,7 +1,7 @@
 -- What the descent and the ordered trial of a script come to.
 -- Assumes nothing.
 use Prim.Native.Nat.{ℕ, _+_, _*_, _≤_}
-use mathlib.Core.List.{List, []}
+use mathlib.Core.List.{List}
 use lib.ListN.{length}
 use Rattle.grammar.specs.Trial.{St, Out, ok, fail, out, parse}
 use Rattle.grammar.specs.Descent.{Answer, done, no, deep, stuck, descend}

@@ -47,13 +47,18 @@ parameters = listOf (tok names ⨾ act (named kind.Name))
 abbrev pub entry : Part Action Rule
 entry = call E ⨾ tk Colon ⨾ call E ⨾ act pair
 
--- "t is E separated by commas, trailing allowed; one E alone stays that E, its comma unseen in the span; more make a Tuple."
+-- one E or more behind a first E and its comma
+abbrev pub further : Part Action Rule
+further = more (call E) ⨾ tail Comma (more (call E))
+
+-- "t is E separated by commas, trailing allowed; .. more make a Tuple"; "One E with a trailing comma in return, assignment or expression is now a Tuple of
+-- one whose span includes the comma" (02, change 5); "one E alone stays that E".
 abbrev pub t : Part Action Rule
-t = call E ⨾ (tk Comma ⨾ act list-one ⨾ more (call E) ⨾ tail Comma (more (call E)) ⨾ act tuple ∕ tk Comma ∕ skip)
+t = call E ⨾ (tk Comma ⨾ act list-one ⨾ further ⨾ act tuple ∕ tk Comma ⨾ act list-one ⨾ act tuple ∕ skip)
 
 -- "Parentheses: (E) is E with the wider span; (E, list) is a Tuple; `()` is refused and `())` is the empty Tuple."
 abbrev pub rest : Part Action Rule
-rest = act list-one ⨾ (more (call E) ⨾ tail Comma (more (call E)) ∕ skip) ⨾ act list-done
+rest = act list-one ⨾ (further ∕ skip) ⨾ act list-done
 
 abbrev pub parentheses : Part Action Rule
 parentheses =

@@ -2,7 +2,7 @@
 -- Trial and descent do not read these tables: they are tested (`plain-flows`, `joined-flows`), and need not be believed.
 -- Assumes nothing.
 use mathlib.Core.List.{List, [], _∷_, map}
-use Rattle.grammar.specs.Flow.{Effect, Effects}
+use Rattle.grammar.specs.Flow.{Effects}
 use Rattle.pyhyeon.specs.Machine.{Value, token, node, signs, growing, list, chain, Kept}
 use Rattle.pyhyeon.specs.Action.{Action, mark, literal, named, alone, signs-none, signs-more, unary, binary, compare, compare-more, compared, list-none, list-one, list-join, list-done, enclose, empty, group, tuple, pair, attribute, apply, index, lambda, expr, assign, return, branch, elif, else, while, for, define, class, program}
 use Rattle.pyhyeon.specs.Rules.{Rule, Program, Line, Simple, Block, Class, E, O, A, C, S, P, U, F}

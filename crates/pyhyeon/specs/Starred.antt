@@ -68,9 +68,9 @@ pub record Starred : Type 0 where
   pub negation : Reads (bytes "not a == b") (tok Not 0 3 ∷ tok Identifier 4 5 ∷ tok EqualEqual 6 8 ∷ tok Identifier 9 10 ∷ tok Eof 10 10 ∷ [])
       (Accepted (work 4 15 (made kind.Variable 4 5 4 5 0 0 ∷ made kind.Unary 0 5 1 0 0 0 ∷ made kind.Variable 9 10 9 10 0 0
       ∷ made kind.Binary 0 10 7 1 2 0 ∷ made kind.Expr 0 10 3 0 0 0 ∷ made kind.Program 0 10 4 0 0 0 ∷ [])))
-  -- *`1,`: Int
+  -- *`1,`: Tuple (02, change 5)
   pub comma : Reads (bytes "1,") (int 0 1 1 ∷ tok Comma 1 2 ∷ tok Eof 2 2 ∷ [])
-      (Accepted (work 2 11 (made kind.Int 0 1 1 0 0 0 ∷ made kind.Expr 0 2 0 0 0 0 ∷ made kind.Program 0 2 1 0 0 0 ∷ [])))
+      (Accepted (work 2 11 (made kind.Int 0 1 1 0 0 0 ∷ made kind.Tuple 0 2 0 0 0 0 ∷ made kind.Expr 0 2 1 0 0 0 ∷ made kind.Program 0 2 2 0 0 0 ∷ [])))
   -- *`if a:`, line feed, `  b`: 14 at 9
   pub cut : Reads (bytes "if a:\n  b")
       (tok If 0 2 ∷ tok Identifier 3 4 ∷ tok Colon 4 5 ∷ tok Newline 5 6 ∷ tok Indent 6 8 ∷ tok Identifier 8 9 ∷ tok Dedent 9 9 ∷ tok Eof 9 9 ∷ [])

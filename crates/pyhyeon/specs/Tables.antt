@@ -12,7 +12,7 @@ use Rattle.token.specs.Code as token
 use Rattle.pyhyeon.specs.Symbol.{Tee}
 use Rattle.ast.specs.Kind as kind
 use Rattle.pyhyeon.specs.Action.{Action, mark, literal, named, alone, list-none, list-one, list-join, list-done, enclose, empty, group, tuple, pair, expr, assign, return, program}
-use Rattle.pyhyeon.specs.Rules.{Rule, Program, Line, Simple, Block, Class, E, O, A, C, S, P, U, F, tk, more, list, entry, rest, simples, newlines, comparisons, sums, products, signSet, literals, postfix, plain}
+use Rattle.pyhyeon.specs.Rules.{Rule, Program, Line, Simple, Block, Class, E, O, A, C, S, P, U, F, tk, more, list, entry, further, rest, simples, newlines, comparisons, sums, products, signSet, literals, postfix, plain}
 
 -- Alternatives that begin alike are taken together up to where they differ, and Newlines between two Lines are taken after the first. So Program,
 -- Simple, Block and F differ from `plain`.
@@ -20,9 +20,9 @@ use Rattle.pyhyeon.specs.Rules.{Rule, Program, Line, Simple, Block, Clas
 abbrev pub linesOn : Part Action Rule
 linesOn = call Line ⨾ newlines ⨾ many (call Line ⨾ newlines ⨾ act list-join) ⨾ act list-done
 
--- t: after one E a comma, and after that perhaps another E, which makes it a Tuple
+-- t: after one E a comma makes it a Tuple, whether another E follows or not
 abbrev pub tJoined : Part Action Rule
-tJoined = call E ⨾ (tk Comma ⨾ (act list-one ⨾ more (call E) ⨾ tail Comma (more (call E)) ⨾ act tuple ∕ skip) ∕ skip)
+tJoined = call E ⨾ (tk Comma ⨾ act list-one ⨾ (further ∕ skip) ⨾ act tuple ∕ skip)
 
 -- `{` and its first E: a colon makes it a pair, and anything else a member
 abbrev pub pairsOn : Part Action Rule

@@ -31,7 +31,8 @@ pub record Held (src : List ℕ) (count used : ℕ) (tokens text : List ℕ) : T
   pub tokens-are : tokens ≡ padded (tokenArea (length src)) (wordsOf (tokenList src))
   pub text-is : text ≡ padded (length src) (textBytes (tokenList src))
 
--- the number r of a refusal at a token of this code, where the tree reader hands on k: 13, or what was asked for
+-- the number r of a refusal at a token of this code, where the tree reader hands on k: 13, or what was asked for, which tells 14, 15 or 16 by that code (02,
+-- change 4)
 pub record Tells (k code r : ℕ) : Type 0 where
   pub deep : k ≡ 13 → r ≡ 13
   pub unfit : (asked : List ℕ) → k ≡ askedNumber asked → r ≡ faultNumber (faultOf code asked)

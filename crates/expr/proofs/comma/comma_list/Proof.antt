@@ -1,15 +1,19 @@
 -- `expr::comma_list` meets its contract: t, the comma list of E outside brackets.
 -- Assumes nothing.
 use Rattle.expr.proofs.Read.{after-enter}
+use Rattle.expr.proofs.Low.{low-member}
 use Rattle.joint.proofs.Taken.{Taken, taken-tested}
 use Rattle.joint.proofs.Loops.{ready-of}
-use Rattle.joint.proofs.Chain.{tok-then, part-then, part-stop, skip-end}
+use Rattle.joint.proofs.Ends.{one-then}
+use Rattle.joint.proofs.Chain.{tok-then, part-then, part-stop, list-parts, skip-end}
 use Rattle.joint.proofs.Choices.{absent, or-first, or-next}
 use Rattle.joint.proofs.Bounds.{Grown}
 use Rattle.lookahead.proofs.Tests.{learnt}
 use Rattle.token.specs.Code as code
 use Rattle.grammar.specs.Descent.{null, begins}
+use Rattle.pyhyeon.specs.Tables.{first}
 use mathlib.Core.List.{[], _∷_}
+use mathlib.Core.Bool.{false}
 use mathlib.Core.Path.{refl}
 use native.Mathlib.Omega.{arith}
 use borrow.Author.Needs.{needs}
@@ -44,20 +48,11 @@ symbol-at-requires c κs = (start (c .before .before) .pre .tokens, behind (c .b
 is-symbol-requires : tie.Need-is-symbol-requires
 is-symbol-requires c κs = search needs
 
-past-requires : tie.Need-past-requires
-past-requires c κs =
-    let g = behind (c .before .before .before .before .before .before) in
-    omega arith
-
 comma-rest-requires : tie.Need-comma-rest-requires
 comma-rest-requires c κs =
-    let at-if1 = c .before .before in
-    let at-inner = read at-if1 in
-    let at-enter = at-inner .before .before .before .before in
-    let r = start at-inner .pre in
+    let at-inner = read (c .before) in
     let g = behind at-inner in
-    let m = comma at-if1 in
-    rw (c .past .ensures) (ready-of (r .tokens) (omega arith), g .node)
+    (ready-of (start at-inner .pre .tokens) (omega arith), g .node)
 
 enum-known-inner-2 : tie.Need-enum-known-inner-2
 enum-known-inner-2 c = search needs
@@ -66,14 +61,14 @@ same-length : tie.Need-same-length
 same-length c = search needs
 
 returns : tie.Need-returns
-unfolding begins null
+unfolding first begins null
 returns c =
     let at-comma-rest = c .before .before in
-    let at-if1 = at-comma-rest .before .before .before in
+    let at-if1 = at-comma-rest .before .before in
     let at-inner = read at-if1 in
     let at-enter = at-inner .before .before .before .before in
     let m = comma at-if1 in
-    record { comes = λ vs. part-then (at-enter .enter .ensures) (at-inner .inner .given .1) (or-first (m .here) (m .seen) (tok-then (m .here) (m .seen) (rw (at-comma-rest .before .past .ensures) at (at-comma-rest .comma-rest .ensures .comes vs)))) }
+    record { comes = λ vs. part-then (at-enter .enter .ensures) (at-inner .inner .given .1) (or-first (m .here) (m .seen) (tok-then (m .here) (m .seen) (one-then (list-parts (low-member false) (m .inside) (m .seen) refl (at-comma-rest .comma-rest .ensures .comes vs))))) }
 
 same-length-2 : tie.Need-same-length-2
 same-length-2 c = search needs
@@ -100,7 +95,6 @@ comma-list-spec =
     enum-known-inner
     symbol-at-requires
     is-symbol-requires
-    past-requires
     comma-rest-requires
     enum-known-inner-2
     same-length

@@ -1,7 +1,7 @@
 -- `raw_token::word::name` meets its contract: the first character decides.
 -- Assumes nothing.
 use borrow.Author.Needs.{needs}
-use mathlib.Core.Path.{_≡_, sym, ap, _∙_}
+use mathlib.Core.Path.{sym, ap, _∙_}
 use denote.Ref.{now}
 use Rattle.raw_token.specs.Pattern.{beginsName}
 use Rattle.raw_token.proofs.Names.{name-found, name-missed}

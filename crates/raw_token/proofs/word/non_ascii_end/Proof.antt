@@ -1,7 +1,7 @@
 -- `raw_token::word::non_ascii_end` meets its contract: a byte below 128 that continues no name ends it.
 -- Assumes nothing.
 use borrow.Author.Needs.{needs}
-use mathlib.Core.Path.{_≡_, sym}
+use mathlib.Core.Path.{sym}
 use denote.Ref.{now}
 use Rattle.raw_token.proofs.Names.{low-end}
 use Rattle.raw_token.proofs.word.non_ascii_end.Statement.{statement}
