@@ -1,4 +1,5 @@
-"""The sources that are not left to chance: every row of two and three operators, each sort of nesting, names in other scripts, and spellings of Floats."""
+"""The sources that are not left to chance: every row of two and three operators, each sort of nesting, names in other scripts, spellings of Floats, and commas behind one
+E."""
 
 COMPARISONS = "== != < <= > >=".split()
 TERMS, FACTORS = "+ -".split(), "* / // %".split()
@@ -12,6 +13,11 @@ WIDE = (
 
 # Spellings of Floats, more than one for a value. The last has m at 2^53.
 FLOATS = "0.10 0.1 00.100 1.50 0.0 007.0 100.000 1.0e5 1.0E+05 2.50e-3 0.10E0 900719925474099.2".split()
+
+# One E with a trailing comma (02, change 5), alone and beside parentheses, which make a Tuple of one as well.
+ONE_AND_A_COMMA = ["{} ,", "( {} ) ,", "( {} , ) ,", "( ( {} , ) , )", "( ( {} ) , ) ,"]
+# What Python takes for a target, a list's and a tuple's members too.
+TARGETS = ["a", "é", "a.b", "a[b]", "f(a,).b", "a[-1]", "[a,]", "[a, b]", "(a)", "((a))", "(a,)", "((a,))", "(a, b)", "(a, (b,),)"]
 
 
 def systematic():
@@ -79,11 +85,30 @@ def floats():
             yield form.format(spelling, FLOATS[(i + k + 1) % len(FLOATS)], FLOATS[(i + 2 * k + 5) % len(FLOATS)])
 
 
+def commas():
+    """Each of these with a trailing comma, alone and beside parentheses, in each place of a t."""
+    others = [
+        "1", "-1", "- 1", "1.50", "(1.50)", "'é'", "None", "not a", "- - a", "a + b", "a or b and c", "a < b < c", "(a < b) < c", "lambda: a", "lambda a,: a", "(lambda: a,)", "f()",
+        "f(a,)", "f((a,),)", "[[a,],]", "[(a,),]", "{a,}", "{a: b,}", "{}", "a[(b,)]", "(a,) + b", "é.한국",
+    ]
+    made = [text for one in TARGETS + others for form in ONE_AND_A_COMMA for text in in_each_place(one, form)]
+    return list(dict.fromkeys(made))
+
+
+def in_each_place(one, form):
+    """Behind return, as an expression, as a value and, where Python takes it, as a target; with blanks or without."""
+    t = form.format(one) if len(one) % 2 else form.replace(" ", "").format(one)
+    yield from (f"{t}\n", f"return {t}\n", f"x = {t}\n", f"if a: {t}; return {t}\nelse:\n  y={t} # {t}\n")
+    if one in TARGETS:
+        yield from (f"{t} = b\n", f"{t}={t}\n", f"한, {t} = c;{t} =b,\n")
+
+
 def long_ones():
-    """Sources of 65,536 bytes, the most that 01 takes: lines, a list, a string, a call, a chain, a row of `or`, names in other scripts, and Floats."""
+    """Sources of 65,536 bytes, the most that 01 takes: lines, a list, a string, a call, a chain, a row of `or`, names in other scripts, Floats, and commas behind one E."""
     for first, part, last in (
         ("", "a = b[-1] + 2.5 # x\n", ""), ("[", "a,", "]"), ("'", "\\n\\d\"é", "'"), ("f(", "(a), ", ")"), ("a", " < a", ""), ("a", " or a", ""),
         ("", "if a:\n  b\nelif c: d; e\nelse:\n  pass\n", ""), ("", "é.한국 = ﬁ(x·1)\n", ""), ("[", "(0.10), 1.50, ", "]"),
+        ("", "é, = a,; (b,),\nreturn c,\n", ""),
     ):
         room = 65536 - len((first + last).encode()) - 1
         text = first + part * (room // len(part.encode())) + last

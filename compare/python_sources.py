@@ -1,13 +1,13 @@
 """Sources of the subset that document 01 shares with Python: what both read, and read alike but for what python_tree.py says.
 
 Left out are 01's departures from the Reference (docs/DIFFERENCES.md): `not` beside a tighter operator, a sign that touches a Float's digits or an Int with
-something behind it, a comma behind one E alone, `()`, t{..}, number and string forms and escapes of one side only, other steps of indentation,
+something behind it, `()`, t{..}, number and string forms and escapes of one side only, other steps of indentation,
 carriage returns, line feeds in brackets, spaces alone at the end, a body at the end with no last line feed, keywords of Python alone, targets that
 Python refuses, empty bodies, blank lines where they are refused, classes of other things than methods, and the forms that 01 has not.
 """
 import random
 
-from python_rows import COMPARISONS, FACTORS, TERMS, WIDE, floats, long_ones, nested, systematic, wide
+from python_rows import COMPARISONS, FACTORS, ONE_AND_A_COMMA, TERMS, WIDE, commas, floats, long_ones, nested, systematic, wide
 
 NAMES = (
     "a b c x y i n t t self _ __init__ total node_5 e5 E r1 If classes not_ nota true none None_ print match case type or_else "
@@ -176,10 +176,17 @@ class Source:
     # Statements.
 
     def listed(self):
-        """The t of the grammar: one E with no comma behind it, or more."""
+        """The t of the grammar: one E, with a comma behind it or without, or more."""
         if self.chance(0.8):
-            return self.expression(self.depth)
+            return self.one(self.expression(self.depth))
         return self.commas(self.some(self.depth, 2) or [["a"], ["b"]]) if self.depth > 0 else ["a", ",", "b"]
+
+    def one(self, tokens):
+        """One E or target, sometimes with a trailing comma, and then beside parentheses too."""
+        if not self.chance(0.2):
+            return tokens
+        parts = self.pick(ONE_AND_A_COMMA).split()
+        return [token for part in parts for token in (tokens if part == "{}" else [part])]
 
     def target(self, d):
         kind = self.random.randint(0, 9)
@@ -203,7 +210,7 @@ class Source:
             return self.listed()
         if kind < 7:
             targets = [self.target(self.depth) for _ in range(self.pick([1, 1, 1, 2, 3]))]
-            left = self.commas(targets) if len(targets) > 1 else targets[0]
+            left = self.commas(targets) if len(targets) > 1 else self.one(targets[0])
             return left + ["="] + self.listed()
         return ["return"] + self.listed() if kind < 8 else [self.pick(["break", "continue", "pass"])]
 
@@ -272,7 +279,7 @@ class Source:
 def sources(count, seed):
     """Those of python_rows.py, and then random ones."""
     made = 0
-    for text in [*systematic(), *nested(), *wide(), *floats(), *long_ones()]:
+    for text in [*systematic(), *nested(), *wide(), *floats(), *commas(), *long_ones()]:
         if made < count:
             yield text
             made += 1

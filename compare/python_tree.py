@@ -173,6 +173,12 @@ class Tree(Tokens):
         names = self.names(node.args)
         return self.node("Lambda", 0, 0, names, self.expression(node.body, i, j))
 
+    def listed_bare(self, node, low, high, place):
+        """The t of the grammar. That a Tuple's span includes its trailing comma is CPython's own."""
+        comma = isinstance(node, ast.Tuple) and len(node.elts) == 1 and self.word(self.range_of(node)[1]) == ","
+        self.noted[f"one E and a comma, {place}"] += comma
+        return self.expression(node, low, high)
+
     # Statements: each method answers the node's number and the token behind it.
 
     def statements(self, nodes, at):
@@ -205,11 +211,11 @@ class Tree(Tokens):
             return getattr(self, "read_" + name)(node, i, self.tokens[i].start)
         start, end, fields = self.tokens[i].start, self.tokens[j].end, []
         if name == "Assign":
-            target = self.expression(node.targets[0], i, j)
+            target = self.listed_bare(node.targets[0], i, j, "a target")
             self.records[target][1:3] = start, end
-            fields = [target, self.expression(node.value, i, j)]
+            fields = [target, self.listed_bare(node.value, i, j, "a value")]
         elif name in ("Expr", "Return"):
-            fields = [self.expression(node.value, i, j)]
+            fields = [self.listed_bare(node.value, i, j, "an expression" if name == "Expr" else "returned")]
         return self.node(name, start, end, *fields), j + 1
 
     def read_If(self, node, i, start):

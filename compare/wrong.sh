@@ -50,6 +50,18 @@ wrong "a Float's r and s widened by the assignment" descent/statement.rs \
     's/target.span = self.span_from(start);/& if let crate::tree::ExprKind::Float(_, token) = \&mut target.kind { *token = target.span; }/'
 wrong "the places of the token before a Float" descent/expression.rs \
     's/ExprKind::Float(.*Span { start, end: token.end })/{ let before = self.tokens[self.at.max(2) - 2]; ExprKind::Float(f64::from_bits(token.value), Span { start: before.start, end: before.end }) }/'
+wrong "one E with a trailing comma left that E" descent/expression.rs \
+    '/fn t(/,/^    }/s/let span = /if members.len() == 1 { return Ok(members.remove(0)); } &/'
+wrong "a Tuple of one that ends before its comma" descent/expression.rs \
+    '/fn t(/,/^    }/s/let span = .*/& let span = if members.len() == 1 { members[0].span } else { span };/'
+wrong "a second trailing comma let through" descent/expression.rs '/fn t(/,/^    }/s/let span = /self.take_if(Kind::Comma); &/'
+one='if let crate::tree::ExprKind::Tuple(members) = \&mut t.kind { if members.len() == 1 \&\& members[0].span.start == t.span.start { self.written -= 1; t = members.remove(0); } }'
+wrong "no Tuple of one for a target" descent/statement.rs "s/let value = self.t()?;/& let mut t = target; $one target = t;/"
+wrong "no Tuple of one for a value" descent/statement.rs "s/let value = self.t()?;/let mut t = self.t()?; $one let value = t;/"
+wrong "no Tuple of one in return" descent/statement.rs "s/StmtKind::Return(self.t()?)/let mut t = self.t()?; $one StmtKind::Return(t)/"
+wrong "no Tuple of one for an expression" descent/statement.rs \
+    "s/return Ok(self.stmt(start, StmtKind::Expr(target)));/let mut t = target; $one return Ok(self.stmt(start, StmtKind::Expr(t)));/"
+wrong "a comma let through behind a condition" descent/statement.rs 's/let condition = self.e()?;/let condition = self.t()?;/'
 wrong "the header's version 1" words.rs 's/VERSION: u32 = 2/VERSION: u32 = 1/'
 wrong "15 for a Dedent at the end" cut.rs 's/Kind::Eof => 15/Kind::Eof | Kind::Dedent if tokens[at].start as usize == src.len() => 15/'
 wrong "14 for the end behind a line feed" cut.rs 's/Kind::Eof =>/Kind::Eof if tokens[at - 1].kind != Kind::Newline =>/'

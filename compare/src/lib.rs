@@ -3,7 +3,8 @@
 //!
 //! `parse` reads a script to a tree; `layout` puts the tree into words; `read` asks the questions 1 to 14, without 12 (gone by
 //! 02's change 1), and fills the three areas. The descent and the ordered trial are two readings of the same tokens with no
-//! code in common. `utf8` is the check that 02's change 2 asks for, `cut` tells 15 and 16 of change 4 from 14.
+//! code in common. `utf8` is the check that 02's change 2 asks for, `cut` tells 15 and 16 of change 4 from 14; change 5 is in the two
+//! functions `t`.
 
 pub mod classes;
 pub mod cut;

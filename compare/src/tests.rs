@@ -1,5 +1,6 @@
-//! 01's "Scripts and their outcome", 02's names, Floats and cut scripts, read both ways; the classes of characters.
+//! 01's "Scripts and their outcome", 02's names, Floats, cut scripts and trailing commas, read both ways; the classes of characters.
 
+mod commas;
 mod cut;
 
 use crate::classes::{BEGIN, CONTINUE};
@@ -64,7 +65,7 @@ fn accepted_scripts() {
     assert_eq!(kinds("1.e5"), [INT, ATTRIBUTE, EXPR, PROGRAM]);
     assert_eq!(kinds("())"), [TUPLE, EXPR, PROGRAM]);
     assert_eq!(kinds("not a == b"), [VARIABLE, UNARY, VARIABLE, BINARY, EXPR, PROGRAM]);
-    assert_eq!(kinds("1,"), [INT, EXPR, PROGRAM]);
+    assert_eq!(kinds("1,"), [INT, TUPLE, EXPR, PROGRAM]);
     assert_eq!(kinds("if a:\n  b\n"), [VARIABLE, VARIABLE, EXPR, IF, PROGRAM]);
     assert_eq!(kinds("if a:\n  "), [VARIABLE, IF, PROGRAM]);
     assert_eq!(kinds("-9223372036854775808"), [INT, EXPR, PROGRAM]);
@@ -101,7 +102,7 @@ fn floats_keep_their_spelling() {
         ("0.10 = 1.50", &[[0, 11, 0, 4], [7, 11, 7, 11]]),
         ("(0.10) = 1", &[[0, 10, 1, 5]]),
         ("((0.10)) = (1.50)", &[[0, 17, 2, 6], [11, 17, 12, 16]]),
-        ("0.10, = 1.50,", &[[0, 13, 0, 4], [8, 12, 8, 12]]),
+        ("0.10, = 1.50,", &[[0, 4, 0, 4], [8, 12, 8, 12]]),
         ("0.10, (1.50) = a", &[[0, 4, 0, 4], [6, 12, 7, 11]]),
         ("a; 0.10=1; 1.50", &[[3, 9, 3, 7], [11, 15, 11, 15]]),
         ("[0.10, (1.50)]", &[[1, 5, 1, 5], [7, 13, 8, 12]]),

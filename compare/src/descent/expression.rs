@@ -81,14 +81,11 @@ impl Descent<'_> {
         self.expr(span, ExprKind::Binary(op, Box::new(left), Box::new(right)))
     }
 
-    /// t: E separated by commas, trailing allowed; one E alone stays that E, its comma unseen in the span.
+    /// t: E separated by commas, trailing allowed; one E alone stays that E. "One E with a trailing comma .. is now a Tuple of one
+    /// whose span includes the comma" (02, change 5).
     pub(super) fn t(&mut self) -> Read<Expr> {
         let first = self.e()?;
-        if self.kind() != Kind::Comma {
-            return Ok(first);
-        }
-        self.take();
-        if !begins_expression(self.kind()) {
+        if !self.take_if(Kind::Comma) {
             return Ok(first);
         }
         let start = first.span.start;

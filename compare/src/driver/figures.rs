@@ -1,7 +1,8 @@
 //! What was compared, in numbers.
 
 use crate::generate::CLASSES;
-use crate::sides::{Has, Made, Tried, NEVER};
+use crate::has::Has;
+use crate::sides::{Made, Tried, NEVER};
 use plain::utf8::Checked;
 
 #[derive(Clone, Copy, Default)]
@@ -16,6 +17,9 @@ struct Row {
     /// Those accepted that have a Float in parentheses, and those that have one as a target.
     grouped: u64,
     targets: u64,
+    /// Those accepted that have a Tuple of one without parentheses, and by its place.
+    lone: u64,
+    lone_in: [u64; 4],
     /// Those refused by 9 at a character beyond ASCII.
     stray: u64,
     unanswered: u64,
@@ -26,7 +30,7 @@ struct Row {
 /// The table's columns: name, width, and what is counted.
 type Column = (&'static str, usize, fn(&Row) -> u64);
 
-const COLUMNS: [Column; 14] = [
+const COLUMNS: [Column; 15] = [
     ("inputs", 10, |row| row.inputs),
     ("bytes", 12, |row| row.bytes),
     ("ASCII", 10, |row| row.ascii),
@@ -34,6 +38,7 @@ const COLUMNS: [Column; 14] = [
     ("named", 10, |row| row.named),
     ("(Float)", 9, |row| row.grouped),
     ("Float=", 9, |row| row.targets),
+    ("E,", 9, |row| row.lone),
     ("1-11", 10, |row| row.numbers[1..=11].iter().sum()),
     ("9 wide", 10, |row| row.stray),
     ("13", 10, |row| row.numbers[13]),
@@ -99,6 +104,8 @@ impl Figures {
         row.named += u64::from(has.wide_name);
         row.grouped += u64::from(has.float_in_parentheses);
         row.targets += u64::from(has.float_target);
+        row.lone += u64::from(has.lone_tuple.contains(&true));
+        row.lone_in.iter_mut().zip(has.lone_tuple).for_each(|(count, has)| *count += u64::from(has));
         row.stray += u64::from(answer.is_some_and(|answer| answer.number == 9 && !src[answer.place as usize].is_ascii()));
         row.alike += u64::from(tried == Tried::Alike);
         row.spent += u64::from(tried == Tried::Spent);
@@ -113,11 +120,12 @@ impl Figures {
             total.named += row.named;
             total.grouped += row.grouped;
             total.targets += row.targets;
+            total.lone += row.lone;
             total.stray += row.stray;
             total.unanswered += row.unanswered;
             total.alike += row.alike;
             total.spent += row.spent;
-            for (sum, number) in total.numbers.iter_mut().zip(row.numbers) {
+            for (sum, number) in total.numbers.iter_mut().zip(row.numbers).chain(total.lone_in.iter_mut().zip(row.lone_in)) {
                 *sum += number;
             }
         }
@@ -133,6 +141,9 @@ impl Figures {
         println!("ASCII only: {}", total.ascii);
         println!("accepted {}, with a name beyond ASCII: {}", total.numbers[0], total.named);
         println!("accepted with a Float in parentheses: {}, as a target: {}", total.grouped, total.targets);
+        let [returned, target, value, alone] = total.lone_in;
+        println!("accepted with one E and a trailing comma: {}", total.lone);
+        println!("  in return {returned}, as a target {target}, as a value {value}, as an expression {alone}");
         println!("refused by 9 at a character beyond ASCII: {}", total.stray);
         for (number, count) in total.numbers.iter().enumerate().filter(|&(number, _)| number != 0 && number != NEVER as usize) {
             println!("refused by {number:>2}: {count}");

@@ -8,12 +8,14 @@
 mod check;
 mod figures;
 mod generate;
+mod has;
 mod random;
 mod shrink;
 mod sides;
 
 use figures::Figures;
 use generate::{runs, Generator};
+use has::Has;
 use sides::{Case, Difference, Sides};
 use std::io::Read;
 use std::process::ExitCode;
@@ -132,7 +134,7 @@ fn run(limits: &Limits) -> ExitCode {
         });
         match compared {
             Ok(made) => {
-                let has = made.answer.map(|answer| sides.has(&case.src, answer)).unwrap_or_default();
+                let has = made.answer.map(|answer| Has::of(&case.src, answer, &sides.library)).unwrap_or_default();
                 figures.count(class, &case.src, made, has);
             }
             Err(difference) => return found(&mut sides, case, difference, &figures, begun),

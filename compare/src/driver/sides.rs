@@ -1,10 +1,8 @@
 //! One input put to both readers, and what they made of it.
 
 use crate::check::{Checks, WORDS};
-use plain::token::Kind;
 use plain::trial::{try_program, Verdict};
 use plain::utf8::Checked;
-use plain::words::{kind, HEADER};
 use plain::{areas, Answer};
 use std::panic::{catch_unwind, AssertUnwindSafe};
 
@@ -113,17 +111,6 @@ pub struct Made {
     pub tried: Tried,
 }
 
-/// What is counted of the accepted sources.
-#[derive(Default)]
-pub struct Has {
-    /// A name with a character beyond ASCII.
-    pub wide_name: bool,
-    /// A Float whose node begins before its token: the parentheses' span is wider. The Assign's is on its right only.
-    pub float_in_parentheses: bool,
-    /// A Float that is an Assign's target.
-    pub float_target: bool,
-}
-
 /// How the ordered trial was compared with the descent.
 #[derive(Clone, Copy, PartialEq, Eq)]
 pub enum Tried {
@@ -169,6 +156,7 @@ impl Sides {
             return differ(format!("both answer {NEVER}"));
         }
         self.alike(reach)?;
+        answer.map_or(Ok(()), within_limits)?;
         let tried = answer.map_or(Ok(Tried::SetAside), |answer| self.try_too(&case.src, answer))?;
         let checked = self.checks.compare(&case.src, case.check_words())?;
         Ok(Made { answer, checked, tried })
@@ -219,23 +207,6 @@ impl Sides {
         self.alike([self.plain.tokens.len(), self.plain.text.len(), self.plain.tree.len()])
     }
 
-    /// What a source has, if it is accepted, by the library's own tokens and records.
-    pub fn has(&self, src: &[u8], answer: Answer) -> Has {
-        if answer.number != 0 {
-            return Has::default();
-        }
-        let mut tokens = self.library.tokens.chunks_exact(3).take(answer.tokens as usize);
-        let wide = |token: &[u32]| token[0] == Kind::Name as u32 && !src[token[1] as usize..token[2] as usize].is_ascii();
-        let records = &self.library.tree[HEADER..HEADER + 8 * answer.nodes as usize];
-        let record = |node: u32| &records[8 * node as usize..][..8];
-        let target = |assign: &[u32]| assign[0] == kind::ASSIGN && record(assign[4])[0] == kind::FLOAT;
-        Has {
-            wide_name: tokens.any(wide),
-            float_in_parentheses: records.chunks_exact(8).any(|node| node[0] == kind::FLOAT && node[1] != node[6]),
-            float_target: records.chunks_exact(8).any(target),
-        }
-    }
-
     /// The ordered trial is set beside the descent where that has read the tokens to an end or to one that does not fit.
     fn try_too(&self, src: &[u8], answer: Answer) -> Result<Tried, Difference> {
         if !matches!(answer.number, 0 | 14..=16) {
@@ -269,6 +240,16 @@ impl Sides {
         }
         Ok(Tried::Alike)
     }
+}
+
+/// 01's limits: openings at most 10 T + 1; and nodes at most 2 T + 1, which by 02's change 5 "must be shown to hold" with its commas. The answer shows no nodes in a
+/// refusal: of some refusals tests/commas.rs asks it, of the nodes that the descent has written.
+fn within_limits(answer: Answer) -> Result<(), Difference> {
+    let Answer { number, tokens, nodes, openings, .. } = answer;
+    if matches!(number, 0 | 13..=16) && (openings > 10 * tokens + 1 || nodes > 2 * tokens + 1) {
+        return differ(format!("{openings} openings and {nodes} nodes for {tokens} tokens"));
+    }
+    Ok(())
 }
 
 pub fn same<T: Copy + PartialEq + std::fmt::Display>(what: &str, plain: &[T], library: &[T]) -> Result<(), Difference> {

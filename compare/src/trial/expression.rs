@@ -21,14 +21,19 @@ const PRODUCTS: &[(Kind, u32)] = &[(Kind::Star, 3), (Kind::SlashSlash, 5), (Kind
 const SIGNS: &[(Kind, u32)] = &[(Kind::Not, 1), (Kind::Minus, 2), (Kind::Plus, 3)];
 
 impl Trial<'_> {
-    /// t: one E alone stays that E, more make a Tuple.
+    /// t: one E alone stays that E, more make a Tuple. 02, change 5: so does a trailing comma, the alternative behind that of more.
     pub(super) fn t(&mut self) -> Option<u32> {
         let first = self.at;
-        let members = self.members(Self::e)?;
-        if let [one] = members[..] {
+        let one = self.e()?;
+        let several = |t: &mut Self| {
+            t.token(Kind::Comma)?;
+            t.members(Self::e)
+        };
+        let trailing = |t: &mut Self| t.token(Kind::Comma).map(|()| Vec::new());
+        let Some(others) = self.part(several).or_else(|| self.part(trailing)) else {
             return Some(one);
-        }
-        let list = self.link(&members);
+        };
+        let list = self.link(&[vec![one], others].concat());
         Some(self.node(kind::TUPLE, first, [list, 0, 0, 0]))
     }
 

@@ -36,9 +36,10 @@ pub fn nested(random: &mut Random) -> Vec<u8> {
     }
     src.extend(vec![b' '; 2 * blocks]);
     if random.once_in(4) {
-        src.extend(random.pick(&["if a: ", "a = ", "0.10 = ", "return ", "a; b, ", "for a in "]).bytes());
+        src.extend(random.pick(&["if a: ", "a = ", "0.10 = ", "return ", "a; b, ", "for a in ", "a, = "]).bytes());
     }
     expression(random, &mut src, total - blocks);
+    src.extend(random.pick(&["", "", "", "", ",", ", = a", ","]).bytes());
     if !random.once_in(4) {
         src.push(b'\n');
     }

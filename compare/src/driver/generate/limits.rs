@@ -7,8 +7,8 @@ use plain::LONGEST;
 
 /// What a long source is filled with.
 #[rustfmt::skip]
-const FILL: [&str; 27] = [
-    " ", "\n", "a\n", "a;", "(", "a+", "- ", "not ", "a.b", "1,", "'x'\n", "#", "if a: b\n", "a<", "\u{e9}", "-", "\r", "pass\n", "{a:", "f()[a]\n",
+const FILL: [&str; 30] = [
+    " ", "\n", "a\n", "a;", "(", "a+", "- ", "not ", "a.b", "1,", "1,\n", "a,;", "a,=b,;", "'x'\n", "#", "if a: b\n", "a<", "\u{e9}", "-", "\r", "pass\n", "{a:", "f()[a]\n",
     "\u{ac00}", "\u{ac00}\n", "\u{e9}+", "\u{2118}.", "\u{10400}", "e\u{301},", "a\u{20ac}",
 ];
 

@@ -155,6 +155,9 @@ impl Writer<'_> {
     }
 
     fn t(&mut self) {
+        if self.random.once_in(6) {
+            return self.one_and_a_comma();
+        }
         self.e();
         while self.random.once_in(8) {
             self.put(",");
@@ -162,6 +165,17 @@ impl Writer<'_> {
         }
         if self.random.once_in(12) {
             self.put(",");
+        }
+    }
+
+    /// One E with a trailing comma, alone and beside parentheses, which make a Tuple of one as well.
+    fn one_and_a_comma(&mut self) {
+        const FORMS: [&str; 7] = ["E,", "E,", "(E),", "(E,),", "((E,),)", "((E,)),", "((E),),"];
+        for mark in self.random.pick(&FORMS).split_inclusive(|_| true) {
+            match mark {
+                "E" => self.e(),
+                _ => self.put(mark),
+            }
         }
     }
 
