@@ -28,6 +28,11 @@ printf -- '-1.5' >"$scripts/dot"
 printf '1.e5' >"$scripts/attribute"
 printf '()' >"$scripts/parentheses"
 printf '())' >"$scripts/tuple"
+printf '1,' >"$scripts/comma"
+printf 'def f(): return 1,\n' >"$scripts/comma_returned"
+printf 'a, = b,\n' >"$scripts/comma_assigned"
+printf '(a),; (a,),; [a,], f(a,)\n' >"$scripts/commas"
+printf '1,,' >"$scripts/two_commas"
 printf 'x =' >"$scripts/cut"
 printf 'x =\n' >"$scripts/missing"
 printf 'class A:\n' >"$scripts/cut_class"
@@ -76,10 +81,11 @@ for script in "$scripts"/*; do
     esac
     count=$((count + 1))
 done
-# 0.1's bits, and as it is written: the node's span has parentheses in the one, and is the whole Assign's in the other; a token that does not fit, a script
-# that ends too early, and a line or block that lacks an expression at its end
+# 0.1's bits, and as it is written: the node's span has parentheses in the one, and is the whole Assign's in the other; a Tuple of one, whose span has the
+# comma, and as a target the whole Assign's; a token that does not fit, a script that ends too early, and a line or block that lacks an expression at its end
 for line in 'spelling:0 Float 0 6 3fb999999999999a 0\.10' 'spelled_target:0 Float 0 10 3fb999999999999a 0\.10' \
-    'signed:no 14 1' 'parentheses:no 15 2' 'cut:no 15 3' 'cut_class:no 15 9' 'missing:no 16 3' 'missing_in_block:no 16 11'; do
+    'comma:1 Tuple 0 2' 'comma:0 Int 0 1 1' 'comma_returned:1 Tuple 16 18' 'comma_assigned:1 Tuple 0 7' 'comma_assigned:3 Tuple 5 7' \
+    'two_commas:no 14 2' 'signed:no 14 1' 'parentheses:no 15 2' 'cut:no 15 3' 'cut_class:no 15 9' 'missing:no 16 3' 'missing_in_block:no 16 11'; do
     grep -qx " *${line#*:}" "$work/${line%%:*}.walk_c" || { echo "${line%%:*}: no line ${line#*:}" >&2 && exit 1; }
 done
 # with a header of another version than the library's the walk prints no tree

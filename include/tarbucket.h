@@ -174,7 +174,12 @@ enum {
  * A name is UTF-8 in any script: an XID_Start character of Unicode 15.0.0 or an underscore, then XID_Continue characters. It is not normalised: two names
  * are the same where their bytes are.
  *
- * In a chain of comparisons, a<b<c, which is And(a<b, b<c), the node of b is held twice: who walks the tree by its fields comes to it twice. */
+ * In a chain of comparisons, a<b<c, which is And(a<b, b<c), the node of b is held twice: who walks the tree by its fields comes to it twice.
+ *
+ * A Tuple needs no parentheses in a return, on either side of an assignment, and as a statement of its own. One value with a comma behind it is a Tuple of
+ * one there, with the comma in its span: in `1,` the Tuple is 0 to 2 and the Int 0 to 1. As an Assign's target it has the statement's span, as every target
+ * has: in `a, = b` 0 to 6. Earlier libraries of version 2 have the Int alone, which the version does not tell. In a list, in arguments and the like a
+ * trailing comma makes no node: [a,] and f(a,) hold a itself. */
 enum {
     TARBUCKET_PROGRAM = 1,    /* p list: the lines */
     TARBUCKET_IF = 2,         /* p node: condition; q list: body; r list of Elif; s node?: Else */
@@ -205,7 +210,7 @@ enum {
     TARBUCKET_ATTRIBUTE = 27, /* p node: object; q r name */
     TARBUCKET_LIST = 28,      /* p list: [a, b] */
     TARBUCKET_DICT = 29,      /* p list of Pair: {a: b} */
-    TARBUCKET_TUPLE = 30,     /* p list: (a, b) or a, b */
+    TARBUCKET_TUPLE = 30,     /* p list: (a, b) or a, b; one member: (a,), or `a,` as said above; none: ()) */
     TARBUCKET_SET = 31,       /* p list: {a, b} */
     TARBUCKET_TREE_SET = 32,  /* p list: t{a, b} */
     TARBUCKET_INDEX = 33,     /* p node: object; q node: index */

@@ -61,7 +61,7 @@ const EXPRESSIONS: [Long; 48] = [
 ];
 
 /// Statements.
-const STATEMENTS: [Long; 23] = [
+const STATEMENTS: [Long; 24] = [
     Long("parameters", "def a(", "a,", "):pass", 1),
     Long("spaces and comments", "a #", "#", "", 1),
     Long("semicolons", "pass", ";pass", "", 0),
@@ -69,6 +69,7 @@ const STATEMENTS: [Long; 23] = [
     Long("lines", "pass", "\npass", "", 0),
     Long("lines", "a", "\na", "", 1),
     Long("lines", "a", "\na=a,a", "", 1),
+    Long("lines", "a", "\na,=a,", "", 1),
     Long("lines", "a", "\nreturn a", "", 1),
     Long("lines", "break", "\ncontinue", "", 0),
     Long("blank lines", "pass", "\n", "", 0),

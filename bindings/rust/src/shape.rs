@@ -3,7 +3,20 @@ use crate::tree::{List, Node};
 use std::ops::Range;
 
 /// A node by its kind, with its parts. Names are bytes of the source, UTF-8 in any script and not normalised: two are the same where their bytes are. A
-/// String's value is the decoded bytes; a Float's is the double nearest to what is written, which [`Node::spelling`] has.
+/// String's value is the decoded bytes; a Float's is the double nearest to what is written, which [`Node::spelling`] has. A Tuple may have one member,
+/// and a comma is enough for it in a return, on either side of an assignment, and as a statement: `1,` is a Tuple as `(1,)` is.
+///
+/// ```
+/// use tarbucket::{Reader, Shape};
+///
+/// let mut reader = Reader::new();
+/// let tree = reader.read(b"lifts = 1,").unwrap();
+/// let line = tree.root().children().next().unwrap();
+/// let Shape::Assign { value, .. } = line.shape() else { panic!() };
+/// let Shape::Tuple { mut members } = value.shape() else { panic!() };
+/// assert_eq!(value.text(), b"1,"); // the comma is in its span
+/// assert!(matches!(members.next().unwrap().shape(), Shape::Int(1)) && members.next().is_none());
+/// ```
 #[derive(Clone, Debug)]
 pub enum Shape<'a> {
     Program { lines: List<'a> },

@@ -1,5 +1,6 @@
 use crate::*;
 
+mod comma;
 mod refused;
 mod spelling;
 
@@ -12,7 +13,7 @@ fn number_and_place(src: &[u8]) -> (u32, usize) {
 
 #[test]
 fn scripts_of_the_definition() {
-    let cases: [(&[u8], u32, usize); 23] = [
+    let cases: [(&[u8], u32, usize); 24] = [
         (b"", 0, 0),
         (b"a-1", 14, 1),
         (b"-1.5", 14, 3),
@@ -20,6 +21,7 @@ fn scripts_of_the_definition() {
         (b"()", 15, 2),
         (b"())", 0, 0),
         (b"not a == b", 0, 0),
+        (b"1,", 0, 0),
         (b"if a:\n  b", 14, 9),
         (b"if a:\n  b\n", 0, 0),
         (b"9223372036854775808", 10, 0),
