@@ -59,6 +59,27 @@ pub fn before(src: &[u8]) -> Before {
     found
 }
 
+/// Where the innermost of the brackets that are open before a place is closed, if that is done in its line.
+pub fn closing(src: &[u8], place: usize) -> Option<usize> {
+    let mut found = before(&src[..place]);
+    let depth = found.open.len();
+    for at in tokens(&src[place..]) {
+        let at = place + at.start..place + at.end;
+        let innermost = found.open.last()?;
+        match src[at.start] {
+            b'\n' => return None,
+            b @ (b')' | b']' | b'}') if b as char != innermost.closer => return None,
+            _ => {}
+        }
+        let behind_value = is_value(&src[found.last.clone()]);
+        found.take(src, at.clone(), behind_value);
+        if found.open.len() < depth {
+            return Some(at.start);
+        }
+    }
+    None
+}
+
 /// The token is a value or the end of one.
 fn is_value(token: &[u8]) -> bool {
     match token {

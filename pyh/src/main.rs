@@ -5,6 +5,7 @@ mod arguments;
 mod before;
 mod character;
 mod check;
+mod comma;
 mod drawing;
 mod ending;
 mod excerpt;

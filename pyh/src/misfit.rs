@@ -8,7 +8,7 @@ use tarbucket::{Error, Reader};
 /// A token that does not fit, and what stands before it.
 pub struct Misfit<'a> {
     pub src: &'a [u8],
-    place: usize,
+    pub place: usize,
     /// Its line up to it, and the last line with a token before that.
     line: &'a [u8],
     above: Option<&'a [u8]>,
@@ -49,7 +49,7 @@ impl<'a> Misfit<'a> {
     }
 
     /// How far the reader comes with this in place of a part; none where a token is wrong then.
-    fn reach(&self, part: &Range<usize>, new: &[u8]) -> Option<usize> {
+    pub fn reach(&self, part: &Range<usize>, new: &[u8]) -> Option<usize> {
         let mended = [&self.src[..part.start], new, &self.src[part.end..]].concat();
         match Reader::new().read(&mended) {
             Ok(_) => Some(usize::MAX),
@@ -107,7 +107,10 @@ impl<'a> Misfit<'a> {
             [b'0'..=b'9', ..] if self.signed_decimal() => {
                 ": a number with a dot takes no sign right before it, so write a space between.".to_string()
             }
-            _ => self.missing_before(),
+            _ => {
+                let comma = || if token == b"," { self.comma().map(str::to_string) } else { None };
+                self.quote().or_else(comma).or_else(|| self.bracket()).unwrap_or_else(|| ".".to_string())
+            }
         }
     }
 
@@ -146,19 +149,18 @@ impl<'a> Misfit<'a> {
         digits > 0 && self.helps(at..at + 1, &[sign, b' '])
     }
 
-    /// A quote may be missing in an earlier line, or a bracket right before.
-    fn missing_before(&self) -> String {
-        if let Some(string) = &self.before.string {
-            let (inside, behind) = (&self.src[string.clone()], &self.src[string.end..self.place]);
-            if inside.contains(&b'\n') && behind.trim_ascii().is_empty() {
-                return format!(": the string before it begins in line {}, where its quote may be missing.", line_number(self.src, string.start));
-            }
-        }
-        match self.before.open.last() {
-            Some(bracket) if self.helps(self.place..self.place, &[bracket.closer as u8]) => {
-                format!(": a `{}` may be missing before it.", bracket.closer)
-            }
-            _ => ".".to_string(),
-        }
+    /// A quote may be missing in an earlier line.
+    fn quote(&self) -> Option<String> {
+        let string = self.before.string.as_ref()?;
+        let (inside, behind) = (&self.src[string.clone()], &self.src[string.end..self.place]);
+        (inside.contains(&b'\n') && behind.trim_ascii().is_empty())
+            .then(|| format!(": the string before it begins in line {}, where its quote may be missing.", line_number(self.src, string.start)))
+    }
+
+    /// A bracket may be missing right before.
+    fn bracket(&self) -> Option<String> {
+        let bracket = self.before.open.last()?;
+        let closed = self.helps(self.place..self.place, &[bracket.closer as u8]);
+        closed.then(|| format!(": a `{}` may be missing before it.", bracket.closer))
     }
 }

@@ -21,9 +21,10 @@ pub const COMMAND: Command = Command {
 const ABOUT: &str = "\
 Draws the tree of each script that is accepted, the parts of a node indented
 below it. A Float is shown as it is written; its value follows in parentheses
-where that has another text: 0.10 (0.1). Of a script that is refused it shows
-the line with a caret under the place, and says why. Where no FILE is named,
-and for -, it reads standard input.
+where that has another text: 0.10 (0.1). A Tuple over one value comes from a
+comma behind it: `x = 1,` is a Tuple, `x = 1` is none. Of a script that is
+refused it shows the line with a caret under the place, and says why. Where no
+FILE is named, and for -, it reads standard input.
 ";
 
 const NOTES: &str = "\
