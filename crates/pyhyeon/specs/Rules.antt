@@ -47,7 +47,7 @@ parameters = listOf (tok names ⨾ act (named kind.Name))
 abbrev pub entry : Part Action Rule
 entry = call E ⨾ tk Colon ⨾ call E ⨾ act pair
 
--- one E or more behind a first E and its comma
+-- "E separated by commas, trailing allowed", and the list of "(E, list)": one E or more behind a first E and its comma
 abbrev pub further : Part Action Rule
 further = more (call E) ⨾ tail Comma (more (call E))
 
