@@ -2,14 +2,15 @@
 -- Assumes nothing.
 use mathlib.Core.Path.{_≡_, refl, sym, ap, _∙_}
 use mathlib.Core.Bool.{Bool, true, false, cond}
-use mathlib.Core.List.{List, [], _∷_}
-use Prim.Native.Nat.{ℕ, zero, suc, _+_, _-_, _≤_}
+use mathlib.Core.List.{List, []}
+use Prim.Native.Nat.{ℕ, _+_, _-_, _≤_}
 use native.Mathlib.Omega.{arith}
 use lib.Dec.{eqb}
-use lib.ListN.{length, getD, take, drop, length-drop, length-take}
-use lib.Seq.{sets, take-take, take-nil, drop-drop}
+use lib.ListN.{length, getD, drop, length-drop, length-take}
+use lib.Seq.{sets, take-take, drop-drop}
 use borrow.Author.Tests.{ne-eqb}
 use Rattle.source.specs.Bytes.{part}
+use Rattle.source.proofs.Lists.{drop-take}
 use Rattle.strings.specs.Decoded.{decoded}
 use Rattle.token.specs.Code as Code
 use Rattle.literal.specs.Literal.{lexInteger, lexFloat, lexString, unquoted}
@@ -24,12 +25,6 @@ use Rattle.lexer.specs.declared.value.Taken.the-variants as K
 
 pub length-part : (s : List ℕ) (start end : ℕ) → end ≤ length s → length (part s start end) ≡ end - start
 length-part s start end h = length-take (end - start) (drop start s) ∙ omega (arith, length-drop start s)
-
-drop-take : (k n : ℕ) (l : List ℕ) → drop k (take n l) ≡ take (n - k) (drop k l)
-drop-take zero n l = let e : n - 0 ≡ n = omega arith in rw e
-drop-take (suc k) zero l = let e : 0 - suc k ≡ 0 = omega arith in rw e
-drop-take (suc k) (suc n) [] = sym (take-nil (suc n - suc k))
-drop-take (suc k) (suc n) (b ∷ l) = let e : suc n - suc k ≡ n - k = omega arith in rw e (drop-take k n l)
 
 -- what stands between the quotes of a part is a part
 pub unquoted-part : (s : List ℕ) (start end : ℕ) → start + 2 ≤ end → end ≤ length s → unquoted (part s start end) ≡ part s (start + 1) (end - 1)

@@ -83,7 +83,7 @@ holds t [] h e m = absurd (List·Memᴰ·not-nil m)
 holds t (x ∷ es) h e m =
     ⊎-elim (λ q. rw q (and-left (t (x .0) (x .1)) (all t es) h)) (holds t es (and-right (t (x .0) (x .1)) (all t es) h) e) (List·Memᴰ·cases-cons m)
 
-all-filled : all (λ c p. filled p) table ≡ true
+pub all-filled : all (λ c p. filled p) table ≡ true
 unfolding table
 all-filled = refl
 

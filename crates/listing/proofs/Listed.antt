@@ -3,6 +3,7 @@
 use mathlib.Core.Path.{_≡_, ap}
 use mathlib.Core.List.{_++_}
 use Rattle.source.specs.Text.{bytes}
+use Rattle.numbers.specs.Digits.{digits}
 use Rattle.utf8.specs.Table.{rows, sequenceLength, firstIllFormed, utf8Error}
 use Rattle.lexer.specs.Scan.{Scan}
 use Rattle.grammar.specs.Trial.{skipP, okIf, takeFrom, takeP, seeP, actP, enough}
@@ -15,7 +16,7 @@ use Rattle.pyhyeon.specs.Tables.{joined, first, opens}
 use Rattle.pyhyeon.specs.Reading.{start, descent}
 use Rattle.pyhyeon.proofs.Starred as starred
 use Rattle.reader.specs.Outcome.{ofScan, outcome}
-use Rattle.printing.specs.Printed.{digits, spaced, nodeLines, printedTree}
+use Rattle.printing.specs.Printed.{spaced, nodeLines, printedTree}
 use Rattle.listing.specs.Listing.{printed, printedOutcome, listing}
 
 pub listed : listing (bytes "a<b<c\n") ≡

@@ -1,9 +1,9 @@
--- The digits of a literal joined into a number, its sign, and the place of a byte in it.
+-- The digits of a literal joined into a number, its sign, and the place of a byte in it; and the digits that a number is written with.
 -- Assumes nothing.
-use Prim.Native.Nat.{ℕ, suc, _+_, _-_, _*_}
+use Prim.Native.Nat.{ℕ, zero, suc, _+_, _-_, _*_, _/_, _%_}
 use mathlib.Core.Bool.{Bool, cond, _||_}
-use mathlib.Core.List.{List, [], _∷_}
-use lib.Dec.{eqb}
+use mathlib.Core.List.{List, [], _∷_, _++_}
+use lib.Dec.{eqb, ltb}
 use lib.ListN.{getD}
 use Rattle.source.specs.Bytes.{digit}
 
@@ -25,3 +25,9 @@ isMinus s = eqb (getD s 0 0) 45
 unfoldable pub place : ℕ → ℕ → List ℕ → ℕ
 place x y [] = 0
 place x y (b ∷ r) = cond (eqb b x || eqb b y) 0 (suc (place x y r))
+
+-- the digits of n in base ten, where it has at most so many: the laws `digits-value` and `digits-shortest` (proofs/Written.antt) say that they are n and that no
+-- fewer are
+unfoldable pub digits : ℕ → ℕ → List ℕ
+digits zero n = []
+digits (suc most) n = cond (ltb n 10) ((48 + n) ∷ []) (digits most (n / 10) ++ ((48 + n % 10) ∷ []))

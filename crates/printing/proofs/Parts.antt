@@ -9,12 +9,13 @@ use borrow.Author.Tests.{eq-eqb, ne-eqb}
 use lib.Dec.{eqb}
 use lib.ListN.{length, getD, take, drop, length-append}
 use lib.Seq.{drop-cons}
+use Rattle.numbers.specs.Digits.{digits}
+use Rattle.numbers.proofs.Written.{few}
 use Rattle.ast.specs.Node.{Node, none, words, holdsNode, fieldsOf}
 use Rattle.ast.specs.Words.{nodeAt}
 use Rattle.ast.specs.Mask.{nodeFields}
-use Rattle.printing.specs.Printed.{digits, decimal, spaced, line, nodeParts, printedNo}
+use Rattle.printing.specs.Printed.{decimal, spaced, line, nodeParts, printedNo}
 use Rattle.printing.specs.Masked.{word, masked}
-use Rattle.printing.proofs.Digits.{few}
 
 -- a word, by what the code tests
 pub word-dash : (holds : Bool) (w : ℕ) → holds ≡ true → w ≡ none → word holds w ≡ 45 ∷ []

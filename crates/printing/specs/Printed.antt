@@ -1,16 +1,12 @@
 -- The printed form, as a list of bytes: "prints the header, then index and record per node, none as `-` where a field holds a node number
 -- (Int and Float halves print as numbers; a refusal: `no`, number, place ..)" (01, Scripts).
 -- Assumes nothing.
-use Prim.Native.Nat.{ℕ, zero, suc, _+_, _/_, _%_}
+use Prim.Native.Nat.{ℕ, _+_}
 use mathlib.Core.Bool.{cond}
 use mathlib.Core.List.{List, [], _∷_, _++_, map}
-use lib.Dec.{ltb, eqb}
+use lib.Dec.{eqb}
+use Rattle.numbers.specs.Digits.{digits}
 use Rattle.ast.specs.Node.{Node, Field, maybe, none, holdsNode, fieldsOf}
-
--- the digits of n in base ten, where it has at most so many
-unfoldable pub digits : ℕ → ℕ → List ℕ
-digits zero n = []
-digits (suc most) n = cond (ltb n 10) ((48 + n) ∷ []) (digits most (n / 10) ++ ((48 + n % 10) ∷ []))
 
 -- "values are written in base ten": a word has at most ten digits; the law `decimal-value` (proofs/Value.antt) says that they are the word
 abbrev pub decimal : ℕ → List ℕ

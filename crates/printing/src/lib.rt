@@ -7,7 +7,8 @@ ghost use mathlib.Core.Path.{_≡_};
 ghost use Prim.Native.Nat.{_+_, _*_, _≤_, _<_};
 ghost use lib.ListN.{length, take};
 ghost use Rattle.ast.specs.Words.{nodesOf};
-ghost use Rattle.printing.specs.Printed.{digits, decimal, spaced, line, nodeLines, printedTree, printedNo};
+ghost use Rattle.numbers.specs.Digits.{digits};
+ghost use Rattle.printing.specs.Printed.{decimal, spaced, line, nodeLines, printedTree, printedNo};
 ghost use Rattle.printing.specs.Wrote.{Wrote, Shows};
 ghost use Rattle.printing.specs.Masked.{word, masked};
 

@@ -43,7 +43,7 @@ name-nil = let e : character beginsName [] ≡ 0 = omega (arith, character-le be
 
 -- ---- several
 
-stop : (n : ℕ) (p : ℕ → Bool) (l : List ℕ) → character p l ≡ 0 → atMost n p l ≡ 0
+pub stop : (n : ℕ) (p : ℕ → Bool) (l : List ℕ) → character p l ≡ 0 → atMost n p l ≡ 0
 stop zero p l e = refl
 stop (suc n) p l e = rw e (zero-add _ ∙ stop n p l e)
 

@@ -19,14 +19,14 @@ use Rattle.raw_token.proofs.Names.{character-le, many-le}
 use Rattle.raw_token.specs.declared.RawToken.the-variants.{Found, NoMatch}
 
 -- a match is no longer than the list
-abbrev Bounded : (List ℕ → ℕ) → Type 0
+abbrev pub Bounded : (List ℕ → ℕ) → Type 0
 Bounded p = (l : List ℕ) → p l ≤ length l
 
 cond-le : (t : Bool) (n m : ℕ) → n ≤ m → cond t 0 n ≤ m
 cond-le true n m h = zero-le
 cond-le false n m h = h
 
-one-le : (p : ℕ → Bool) → Bounded (one p)
+pub one-le : (p : ℕ → Bool) → Bounded (one p)
 one-le p [] = zero-le
 one-le p (b ∷ l) = go (p b)
   where
@@ -41,7 +41,7 @@ module _ (p q : List ℕ → ℕ) (hp : Bounded p) (hq : Bounded q) where
   maybe-le : Bounded (maybe p q)
   maybe-le l = omega (arith, behind-le (p l) (q (drop (p l) l)), both-le l)
 
-  seq-le : Bounded (seq p q)
+  pub seq-le : Bounded (seq p q)
   seq-le l = cond-le (eqb (p l) 0) _ _ (maybe-le l)
 
   and-maybe-le : Bounded (andMaybe p q)
@@ -68,11 +68,15 @@ int-le : Bounded P.int
 unfolding P.int
 int-le = maybe-le (one isSign) (run digit) (one-le isSign) (run-le digit)
 
+pub fraction-le : Bounded P.fraction
+unfolding P.fraction
+fraction-le = seq-le (one isDot) (run digit) (one-le isDot) (run-le digit)
+
 float-le : Bounded P.float
-unfolding P.float P.exponent P.fraction
+unfolding P.float P.exponent
 float-le =
     and-maybe-le (seq (run digit) P.fraction) P.exponent
-    (seq-le (run digit) P.fraction (run-le digit) (seq-le (one isDot) (run digit) (one-le isDot) (run-le digit)))
+    (seq-le (run digit) P.fraction (run-le digit) fraction-le)
     (seq-le (one isE) P.int (one-le isE) int-le)
 
 body-le : (q : ℕ) (t : Bool) → Bounded (body q t)

@@ -1,15 +1,15 @@
 -- Laws of lists and runs that the scanners' proofs cite.
 -- Assumes nothing.
-use mathlib.Core.Path.{_≡_, refl}
+use mathlib.Core.Path.{_≡_, refl, sym, ap, _∙_}
 use mathlib.Core.Bool.{Bool, true, false, cond}
-use mathlib.Core.List.{List, [], _∷_}
+use mathlib.Core.List.{List, [], _∷_, _++_}
 use Prim.Native.Nat.{ℕ, zero, suc, _+_, _-_, _<_, _≤_, zero-le, suc-le-suc}
 use mathlib.Core.Logic.{_⊎_, inl, inr}
 use native.Mathlib.Decide.{decLt}
 use native.Mathlib.Numerals.{add-one}
 use native.Mathlib.Omega.{arith}
-use lib.ListN.{length, getD, drop, length-drop, drop-of-length-le}
-use lib.Seq.{drop-cons}
+use lib.ListN.{length, getD, take, drop, length-drop, drop-of-length-le}
+use lib.Seq.{drop-cons, drop-drop, drop-append-seam, take-at, take-nil, getD-drop}
 use Rattle.source.specs.Bytes.{run, part, Len}
 
 -- the list at a place within it: the byte there, and the list at the next place
@@ -63,3 +63,31 @@ pub part-cons : (s : List ℕ) (at end : ℕ) → at < end → end ≤ length s 
 part-cons s at end h k =
     let e : end - at ≡ suc (end - (at + 1)) = omega arith in
     rw (e, at-cons s at (omega arith))
+
+-- a list cut short, and then its front taken off
+pub drop-take : (k n : ℕ) (l : List ℕ) → drop k (take n l) ≡ take (n - k) (drop k l)
+drop-take zero n l = let e : n - 0 ≡ n = omega arith in rw e
+drop-take (suc k) zero l = let e : 0 - suc k ≡ 0 = omega arith in rw e
+drop-take (suc k) (suc n) [] = sym (take-nil (suc n - suc k))
+drop-take (suc k) (suc n) (b ∷ l) = let e : suc n - suc k ≡ n - k = omega arith in rw e (drop-take k n l)
+
+-- ---- what stands at a place of a list
+
+module _ (s : List ℕ) (at : ℕ) where
+  -- it ends within the list
+  pub length-at : (l : List ℕ) → drop at s ≡ l → length s - at ≡ length l
+  length-at l e = sym (length-drop at s) ∙ ap length e
+
+  pub byte-at : (b : ℕ) (l : List ℕ) → drop at s ≡ b ∷ l → getD s at 0 ≡ b
+  byte-at b l e =
+      let z : at + 0 ≡ at = omega arith in
+      ap (λ (i : ℕ). getD s i 0) (sym z) ∙ sym (getD-drop at s 0 0) ∙ ap (λ (x : List ℕ). getD x 0 0) e
+
+  pub part-at : (w r : List ℕ) → drop at s ≡ w ++ r → part s at (at + length w) ≡ w
+  part-at w r e =
+      let n : at + length w - at ≡ length w = omega arith in
+      rw n (ap (take (length w)) e ∙ take-at w r (length w) refl)
+
+  -- and what stands behind it
+  pub drop-more : (w r : List ℕ) → drop at s ≡ w ++ r → drop (at + length w) s ≡ r
+  drop-more w r e = sym (drop-drop (length w) at s) ∙ ap (drop (length w)) e ∙ drop-append-seam w r
