@@ -1,0 +1,16 @@
+pub mod Lexeme
+pub mod Local
+pub mod Cuts
+pub mod Stops
+pub mod Names
+pub mod Apart
+pub mod Stays
+pub mod Fixed
+pub mod Ints
+pub mod Strings
+pub mod Inked
+pub mod Steps
+pub mod LineSteps
+pub mod Lexemes
+pub mod Beside
+pub mod Origin
