@@ -145,24 +145,29 @@ module _ {Act : Type 0} {M : Machine Act} where
       descend-is room r n s = descend-from (enough s) room r n s (enough-for G good r s)
 
       -- a part of it, at any state
-      part-twin : (room : ℕ) (p : Part Act R) → T (low G 100 100 p) → (n : ℕ) (s : St M) → TwinD (Less (takes (G .least) p) s) (walk (G .first) (descend G room) p n s) (walk (G .first) (descend G room) p n s)
+      part-twin : (room : ℕ) (p : Part Act R) (m : ℕ) → T (low G 100 m p) → (n : ℕ) (s : St M) → TwinD (Less (takes (G .least) p) s) (walk (G .first) (descend G room) p n s) (walk (G .first) (descend G room) p n s)
       unfolding descend
-      part-twin room p t n s = walk-twin (length (s .rest) * 100 + 100) (λ r′ n₁ s′ below. rule-twin (enough s′) (enough s′) room r′ n₁ s′ (enough-for G good r′ s′) (enough-for G good r′ s′)) p 100 n s t (omega arith)
+      part-twin room p m t n s = walk-twin (length (s .rest) * 100 + m) (λ r′ n₁ s′ below. rule-twin (enough s′) (enough s′) room r′ n₁ s′ (enough-for G good r′ s′) (enough-for G good r′ s′)) p m n s t (omega arith)
 
       -- a loop goes round, or stops
-      pub many-is : (room : ℕ) (p : Part Act R) → T (low G 100 100 (many p)) → (n : ℕ) (s : St M) →
+      pub many-from : (room m : ℕ) (p : Part Act R) → T (low G 100 m (many p)) → (n : ℕ) (s : St M) →
           let v : Walk M = walk (G .first) (descend G room) p in
           manyD (begins (G .first) p) v n s ≡ byD (sees (begins (G .first) p) (s .rest)) (seqD v (manyD (begins (G .first) p) v)) done n s
       unfolding manyD loopD seqD low
-      many-is room p t n s =
+      many-from room m p t n s =
           let v : Walk M = walk (G .first) (descend G room) p in
           let B : List ℕ = begins (G .first) p in
           let pos : 0 < takes (G .least) p = ltb→lt 0 (takes (G .least) p) (search and-l) in
-          let lower : T (low G 100 100 p) = search (and-l, and-r) in
+          let lower : T (low G 100 m p) = search (and-l, and-r) in
           twinD-same {P = Less 0 s} (by-twin (sees B (s .rest)) _ _ done done n s
-          (then-twin (part-twin room p lower n s) (λ n₁ s₁ h. map-twin (λ s₂ h₂. record { fewer = omega arith })
-          (loop-twin B v v (length (s .rest)) (length (s .rest)) (suc (length (s₁ .rest))) pos (λ n₂ s₂ _. part-twin room p lower n₂ s₂) n₁ s₁ (omega arith) (omega arith) (omega arith))))
+          (then-twin (part-twin room p m lower n s) (λ n₁ s₁ h. map-twin (λ s₂ h₂. record { fewer = omega arith })
+          (loop-twin B v v (length (s .rest)) (length (s .rest)) (suc (length (s₁ .rest))) pos (λ n₂ s₂ _. part-twin room p m lower n₂ s₂) n₁ s₁ (omega arith) (omega arith) (omega arith))))
           (done-twin n s))
+
+      pub many-is : (room : ℕ) (p : Part Act R) → T (low G 100 100 (many p)) → (n : ℕ) (s : St M) →
+          let v : Walk M = walk (G .first) (descend G room) p in
+          manyD (begins (G .first) p) v n s ≡ byD (sees (begins (G .first) p) (s .rest)) (seqD v (manyD (begins (G .first) p) v)) done n s
+      many-is room p t n s = many-from room 100 p t n s
 
       -- and so does the rest of a list
       pub list-is : (room c : ℕ) (p : Part Act R) → T (low G 100 100 p) → (n : ℕ) (s : St M) →
@@ -177,7 +182,7 @@ module _ {Act : Type 0} {M : Machine Act} where
           twinD-same {P = Less 0 s} (by-twin (sees (c ∷ []) (s .rest)) _ _ done done n s
           (then-twin (same-twin (c ∷ []) n s (twin-take (c ∷ []) s)) (λ n₁ s₁ h. map-twin (λ s₂ h₂. record { fewer = omega arith })
           (by-twin {P = Less 0 s₁} (sees B (s₁ .rest)) _ _ done done n₁ s₁
-          (then-twin (part-twin room p lower n₁ s₁) (λ n₂ s₂ h₂. map-twin (λ s₃ h₃. record { fewer = omega arith })
-          (tail-twin c B v v (length (s .rest)) (length (s .rest)) (suc (length (s₂ .rest))) (λ n₃ s₃ _. part-twin room p lower n₃ s₃) n₂ s₂ (omega arith) (omega arith) (omega arith))))
+          (then-twin (part-twin room p 100 lower n₁ s₁) (λ n₂ s₂ h₂. map-twin (λ s₃ h₃. record { fewer = omega arith })
+          (tail-twin c B v v (length (s .rest)) (length (s .rest)) (suc (length (s₂ .rest))) (λ n₃ s₃ _. part-twin room p 100 lower n₃ s₃) n₂ s₂ (omega arith) (omega arith) (omega arith))))
           (done-twin n₁ s₁))))
           (done-twin n s))

@@ -12,9 +12,13 @@ use Rattle.tokens.specs.Token.{Token}
 abbrev pub Tee : ℕ
 Tee = 50
 
--- an Identifier of one byte, which is `t` (116)
+-- from start to end stands one byte, which is `t` (116)
+abbrev pub teeAt : List ℕ → ℕ → ℕ → Bool
+teeAt source start end = eqb end (start + 1) && eqb (getD source start 0) 116
+
+-- an Identifier that is so
 abbrev pub isTee : List ℕ → Token → Bool
-isTee source t = eqb (t .code) Identifier && (eqb (t .end) (t .start + 1) && eqb (getD source (t .start) 0) 116)
+isTee source t = eqb (t .code) Identifier && teeAt source (t .start) (t .end)
 
 abbrev pub symbol : List ℕ → Token → ℕ
 symbol source t = cond (isTee source t) Tee (t .code)
