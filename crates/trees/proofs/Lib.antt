@@ -1,0 +1,17 @@
+pub mod Editing
+pub mod Nodes
+pub mod Flow
+pub mod Decoded
+pub mod Along
+pub mod Stack
+pub mod Apt
+pub mod Making
+pub mod Laying
+pub mod Moves
+pub mod Facts
+pub mod Proper
+pub mod Known
+pub mod Acts
+pub mod Grown
+pub mod Top
+pub mod Examples

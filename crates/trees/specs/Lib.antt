@@ -1,0 +1,4 @@
+pub mod Tree
+pub mod Flat
+pub mod Roles
+pub mod Law
