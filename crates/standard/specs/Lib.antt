@@ -1,0 +1,4 @@
+pub mod Text
+pub mod Hollow
+pub mod Erase
+pub mod Alike
