@@ -1,0 +1,3 @@
+pub mod Wrote
+pub mod Written
+pub mod Packed
