@@ -1,0 +1,15 @@
+pub mod Depth
+pub mod Fits
+pub mod Shapes
+pub mod Leaves
+pub mod Operators
+pub mod View
+pub mod Chains
+pub mod Viewed
+pub mod Turns
+pub mod Signs
+pub mod Parts
+pub mod Lists
+pub mod Members
+pub mod Tuples
+pub mod Bridge

@@ -1,0 +1,4 @@
+pub mod Levels
+pub mod Laid
+pub mod Forms
+pub mod Put
