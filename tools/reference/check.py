@@ -1,6 +1,6 @@
 """Checks of the reference: the scripts of documents 01 and 02, and trial against descent.
 
-Run without arguments; it takes about two minutes, prints how many inputs each part
+Run without arguments; it takes about three minutes, prints how many inputs each part
 compared and stops with the input at the first disagreement.
 """
 import itertools
@@ -9,6 +9,7 @@ import time
 
 import check_commas
 import check_cut
+import check_write
 import generate
 from check_answers import counted, floats, names, scripts_of_01, slices, utf8_places
 from cut import told
@@ -235,6 +236,7 @@ def main():
         ("grammatical and damaged scripts", grammatical_and_damaged),
         ("scripts cut at every byte", cut_short),
         ("deep nesting", deep),
+        *check_write.PARTS,
     ]
     for name, part in parts:
         began = time.time()
