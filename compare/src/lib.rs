@@ -4,12 +4,14 @@
 //! `parse` reads a script to a tree; `layout` puts the tree into words; `read` asks the questions 1 to 14, without 12 (gone by
 //! 02's change 1), and fills the three areas. The descent and the ordered trial are two readings of the same tokens with no
 //! code in common. `utf8` is the check that 02's change 2 asks for, `cut` tells 15 and 16 of change 4 from 14; change 5 is in the two
-//! functions `t`.
+//! functions `t`; `writer` is change 6, over the words of the tree, and `alike` what its text must be read back to.
 
+pub mod alike;
 pub mod classes;
 pub mod cut;
 pub mod descent;
 pub mod layout;
+pub mod lent;
 pub mod literal;
 pub mod name;
 pub mod scan;
@@ -18,6 +20,7 @@ pub mod tree;
 pub mod trial;
 pub mod utf8;
 pub mod words;
+pub mod writer;
 
 use token::Token;
 use tree::Stmt;

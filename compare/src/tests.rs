@@ -1,7 +1,8 @@
-//! 01's "Scripts and their outcome", 02's names, Floats, cut scripts and trailing commas, read both ways; the classes of characters.
+//! 01's "Scripts and their outcome", 02's names, Floats, cut scripts, trailing commas and standard text, read both ways; the classes of characters.
 
 mod commas;
 mod cut;
+mod written;
 
 use crate::classes::{BEGIN, CONTINUE};
 use crate::name::{begins, continues, within};

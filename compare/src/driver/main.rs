@@ -4,7 +4,12 @@
 //!     compare [--seconds N] [--count N] [--seed S]    a run; exit status 1 at the first difference
 //!     compare --stdin                                 one input, with what both sides make of it
 //!     compare --print                                 one input, as 01's program prints it, by the plain reader
+//!     compare --written [--seconds N] [--count N] [--seed S]    a run of the plain writer by itself; the same at the first wrong text
+//!     compare --write [FILE ...]                      each file, or one input: number and length of the plain writer's answer, and the text
+//!     compare --writes                                many sources to the plain writer, for written.py, as batch.rs says
+//!     compare --nests | --sources [--count N] [--seed S]    the sources of a run of the plain writer, to written.py
 
+mod batch;
 mod check;
 mod figures;
 mod generate;
@@ -12,12 +17,15 @@ mod has;
 mod random;
 mod shrink;
 mod sides;
+mod written;
 
 use figures::Figures;
 use generate::{runs, Generator};
 use has::Has;
+use plain::lent::Lent;
+use plain::writer::Wrote;
 use sides::{Case, Difference, Sides};
-use std::io::Read;
+use std::io::{Read, Write};
 use std::process::ExitCode;
 use std::time::{Duration, Instant};
 
@@ -47,27 +55,47 @@ fn main() -> ExitCode {
 }
 
 fn start(words: &[String]) -> ExitCode {
-    if let [word] = words {
-        let mut src = Vec::new();
-        if word == "--stdin" || word == "--print" {
-            std::io::stdin().read_to_end(&mut src).expect("standard input");
+    let (rest, run): (_, fn(&Limits) -> ExitCode) = match words.split_first() {
+        Some((word, [])) if word == "--stdin" => return one(Case::of(standard_input())),
+        Some((word, [])) if word == "--print" => {
+            print!("{}", plain::print(&standard_input()));
+            return ExitCode::SUCCESS;
         }
-        match word.as_str() {
-            "--stdin" => return one(Case::of(src)),
-            "--print" => {
-                print!("{}", plain::print(&src));
-                return ExitCode::SUCCESS;
-            }
-            _ => {}
-        }
-    }
-    match limits(words) {
+        Some((word, files)) if word == "--write" => return write(files),
+        Some((word, [])) if word == "--writes" => return batch::writes(),
+        Some((word, [])) if word == "--nests" => return batch::nests(),
+        Some((word, rest)) if word == "--sources" => (rest, batch::generated),
+        Some((word, rest)) if word == "--written" => (rest, written::run),
+        _ => (words, run),
+    };
+    match limits(rest) {
         Some(limits) => run(&limits),
         None => {
-            eprintln!("usage: compare [--seconds N] [--count N] [--seed S] | --stdin | --print");
+            eprintln!("usage: compare [--written | --sources] [--seconds N] [--count N] [--seed S]");
+            eprintln!("       compare --stdin | --print | --write [FILE ...] | --writes | --nests");
             ExitCode::from(2)
         }
     }
+}
+
+fn standard_input() -> Vec<u8> {
+    let mut src = Vec::new();
+    std::io::stdin().read_to_end(&mut src).expect("standard input");
+    src
+}
+
+/// Prints number and length on a line, then the text, of each file or of standard input; as much is lent as any text may have.
+fn write(files: &[String]) -> ExitCode {
+    let mut sources: Vec<_> = files.iter().map(|file| std::fs::read(file).expect(file)).collect();
+    if files.is_empty() {
+        sources.push(standard_input());
+    }
+    for src in sources {
+        let (Wrote { number, length, .. }, out) = Lent::of(&src).write(plain::LONGEST);
+        println!("{number} {length}");
+        std::io::stdout().write_all(&out[..length as usize]).expect("standard output");
+    }
+    ExitCode::SUCCESS
 }
 
 fn limits(words: &[String]) -> Option<Limits> {
@@ -106,7 +134,7 @@ fn check_alone(sides: &mut Sides, figures: &mut Figures) -> Result<(), (Vec<u8>,
 /// Shows a difference as it was found, and its case, made as small as may be.
 fn found(sides: &mut Sides, case: Case, difference: Difference, figures: &Figures, begun: Instant) -> ExitCode {
     println!("found in {} bytes: {}", case.src.len(), difference.0);
-    let smallest = shrink::shrink(sides, case);
+    let smallest = shrink::shrink(&mut |case| sides.compare(case).is_err(), case);
     shrink::show(sides, &smallest);
     figures.print(begun.elapsed().as_secs_f64(), 1);
     ExitCode::FAILURE

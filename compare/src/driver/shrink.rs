@@ -3,37 +3,40 @@
 use crate::sides::{Case, Sides};
 use plain::words::print_tree;
 
+/// Whether a case shows a difference.
+type Differs<'a> = dyn FnMut(&Case) -> bool + 'a;
+
 /// Takes bytes away, then makes them simpler, while some difference stays: all in the turn in which it was found.
-pub fn shrink(sides: &mut Sides, case: Case) -> Case {
+pub fn shrink(differs: &mut Differs, case: Case) -> Case {
     let mut smallest = case;
     loop {
         let before = (smallest.src.clone(), smallest.tokens, smallest.text, smallest.tree, smallest.answer);
-        drop_parts(sides, &mut smallest);
-        simplify_bytes(sides, &mut smallest);
-        simplify_lengths(sides, &mut smallest);
+        drop_parts(differs, &mut smallest);
+        simplify_bytes(differs, &mut smallest);
+        simplify_lengths(differs, &mut smallest);
         if before == (smallest.src.clone(), smallest.tokens, smallest.text, smallest.tree, smallest.answer) {
             return smallest;
         }
     }
 }
 
-fn keep_if_differs(sides: &mut Sides, smallest: &mut Case, change: impl FnOnce(&mut Case)) -> bool {
+fn keep_if_differs(differs: &mut Differs, smallest: &mut Case, change: impl FnOnce(&mut Case)) -> bool {
     let mut candidate = smallest.clone();
     change(&mut candidate);
-    let differs = sides.compare(&candidate).is_err();
-    if differs {
+    let kept = differs(&candidate);
+    if kept {
         *smallest = candidate;
     }
-    differs
+    kept
 }
 
-fn drop_parts(sides: &mut Sides, smallest: &mut Case) {
+fn drop_parts(differs: &mut Differs, smallest: &mut Case) {
     let mut size = smallest.src.len();
     while size > 0 {
         let mut at = 0;
         while at < smallest.src.len() {
             let end = (at + size).min(smallest.src.len());
-            let dropped = keep_if_differs(sides, smallest, |case| {
+            let dropped = keep_if_differs(differs, smallest, |case| {
                 case.src.drain(at..end);
             });
             if !dropped {
@@ -44,7 +47,7 @@ fn drop_parts(sides: &mut Sides, smallest: &mut Case) {
     }
 }
 
-fn simplify_bytes(sides: &mut Sides, smallest: &mut Case) {
+fn simplify_bytes(differs: &mut Differs, smallest: &mut Case) {
     const SIMPLE: &[u8] = b"a 0";
     if smallest.src.len() > 300 {
         return;
@@ -52,18 +55,18 @@ fn simplify_bytes(sides: &mut Sides, smallest: &mut Case) {
     for at in 0..smallest.src.len() {
         let rank = SIMPLE.iter().position(|&b| b == smallest.src[at]).unwrap_or(SIMPLE.len());
         for &simple in &SIMPLE[..rank] {
-            if keep_if_differs(sides, smallest, |case| case.src[at] = simple) {
+            if keep_if_differs(differs, smallest, |case| case.src[at] = simple) {
                 break;
             }
         }
     }
 }
 
-fn simplify_lengths(sides: &mut Sides, smallest: &mut Case) {
-    keep_if_differs(sides, smallest, |case| case.tokens = 0);
-    keep_if_differs(sides, smallest, |case| case.text = 0);
-    keep_if_differs(sides, smallest, |case| case.tree = 0);
-    keep_if_differs(sides, smallest, |case| case.answer = 6);
+fn simplify_lengths(differs: &mut Differs, smallest: &mut Case) {
+    keep_if_differs(differs, smallest, |case| case.tokens = 0);
+    keep_if_differs(differs, smallest, |case| case.text = 0);
+    keep_if_differs(differs, smallest, |case| case.tree = 0);
+    keep_if_differs(differs, smallest, |case| case.answer = 6);
 }
 
 /// Prints a case and both sides of it.

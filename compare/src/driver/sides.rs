@@ -51,7 +51,7 @@ impl Case {
     }
 
     /// The lengths of the slices for tokens, text and tree.
-    fn lengths(&self) -> [usize; 3] {
+    pub fn lengths(&self) -> [usize; 3] {
         let (tokens, text, tree) = areas(self.src.len());
         let moved = |area: usize, by: isize| area.saturating_add_signed(by);
         [moved(tokens, self.tokens), moved(text, self.text), moved(tree, self.tree)]

@@ -1,4 +1,4 @@
-//! The inputs: four classes whole, then the others in turn by their weight.
+//! The inputs: four classes whole, then the others in turn by their weight; or by turns one of these and one of those.
 
 mod cut;
 mod damage;
@@ -55,7 +55,8 @@ const PIECES: [&str; 35] = [
 
 pub struct Generator {
     random: Random,
-    whole: Box<dyn Iterator<Item = (usize, Vec<u8>)>>,
+    /// None where it is the others' turn.
+    whole: Box<dyn Iterator<Item = Option<(usize, Vec<u8>)>>>,
 }
 
 /// All strings of letters, the shorter ones first, up to a length; `next` is the next one's letters.
@@ -97,17 +98,25 @@ impl Iterator for Strings {
 
 impl Generator {
     pub fn new(seed: u64) -> Generator {
+        Generator { random: Random::new(seed), whole: Box::new(Generator::whole().map(Some)) }
+    }
+
+    pub fn by_turns(seed: u64) -> Generator {
+        Generator { random: Random::new(seed), whole: Box::new(Generator::whole().flat_map(|input| [Some(input), None])) }
+    }
+
+    /// The classes of weight 0.
+    fn whole() -> impl Iterator<Item = (usize, Vec<u8>)> {
         let bytes = Strings::of(TELLING.chunks(1), 3);
         let pieces = Strings::of(PIECES.iter().map(|piece| piece.as_bytes()), 4);
         let letters = Strings::of(wide::TELLING.iter().map(|letter| letter.as_bytes()), 3);
         let whole = bytes.map(|src| (0, src)).chain(pieces.map(|src| (1, src))).chain(letters.map(|src| (2, src)));
-        let whole = whole.chain(wide::characters().map(|src| (3, src)));
-        Generator { random: Random::new(seed), whole: Box::new(whole) }
+        whole.chain(wide::characters().map(|src| (3, src)))
     }
 
     /// An input and the number of its class.
     pub fn next(&mut self) -> (usize, Case) {
-        if let Some((class, src)) = self.whole.next() {
+        if let Some(Some((class, src))) = self.whole.next() {
             return (class, Case::of(src));
         }
         let class = self.class();
