@@ -23,7 +23,7 @@ ghost use Rattle.writer_expr.specs.Put.{Put, Puts, Turns, PutsMember, Pu
 mod leaf;
 mod marks;
 mod rules;
-mod words;
+pub mod words;
 
 use leaf::put_leaf;
 use words::kind_at;
