@@ -16,18 +16,18 @@ use Rattle.grammar.specs.Flow.{Effect, Effects, bind, where-same, strip,
 use Rattle.grammar.proofs.Begin.{On, on-fail, on-if}
 use Rattle.grammar.proofs.Ends.{Ends, ends-done, ends-no, ends-stuck, ends-map, ends-then, ends-by, ends-or, ends-same, ends-loop, ends-tail, ends-enter}
 
-none-is : {A : Type 0} {a : A} → none ≡ some a → ⊥
+pub none-is : {A : Type 0} {a : A} → none ≡ some a → ⊥
 none-is e = let z : _≡_ {A = ℕ} 0 1 = cc in omega arith
 
-some-is : {A : Type 0} {a b : A} → some a ≡ some b → a ≡ b
+pub some-is : {A : Type 0} {a b : A} → some a ≡ some b → a ≡ b
 some-is e = cc
 
-bind-some : {A B : Type 0} (o : Option A) (f : A → Option B) {b : B} → bind o f ≡ some b → (a : A) × (o ≡ some a) × (f a ≡ some b)
+pub bind-some : {A B : Type 0} (o : Option A) (f : A → Option B) {b : B} → bind o f ≡ some b → (a : A) × (o ≡ some a) × (f a ≡ some b)
 unfolding bind
 bind-some none f e = absurd (none-is e)
 bind-some (some a) f e = (a, refl, e)
 
-where-some : {A B : Type 0} (d : Dec A) (o : Option B) {b : B} → where-same d o ≡ some b → A × (o ≡ some b)
+pub where-some : {A B : Type 0} (d : Dec A) (o : Option B) {b : B} → where-same d o ≡ some b → A × (o ≡ some b)
 unfolding where-same
 where-some (yes a) o e = (a, e)
 where-some (no f) o e = absurd (none-is e)
@@ -39,7 +39,7 @@ module _ {S : Type 0} (same : Discrete S) where
   strip-is (i ∷ π) [] e = absurd (none-is e)
   strip-is (i ∷ π) (j ∷ σ) e = let (p, q) = where-some (same j i) (strip same π σ) e in ap₂ _∷_ p (strip-is π σ q)
 
-  alike-is : (a b : List S) {c : List S} → alike same a b ≡ some c → (a ≡ c) × (b ≡ c)
+  pub alike-is : (a b : List S) {c : List S} → alike same a b ≡ some c → (a ≡ c) × (b ≡ c)
   unfolding alike
   alike-is [] [] e = (some-is e, some-is e)
   alike-is [] (j ∷ b) e = absurd (none-is e)
@@ -51,7 +51,7 @@ module _ {S : Type 0} (same : Discrete S) where
       (ap₂ _∷_ p x ∙ some-is t, ap (λ l. j ∷ l) y ∙ some-is t)
 
   -- the stack before, and the stack after, with what stays under both
-  effect-is : (e : Effect S) (σ : List S) {σ′ : List S} → effect same e σ ≡ some σ′ → (τ : List S) × (σ ≡ e .takes ++ τ) × (σ′ ≡ e .leaves ++ τ)
+  pub effect-is : (e : Effect S) (σ : List S) {σ′ : List S} → effect same e σ ≡ some σ′ → (τ : List S) × (σ ≡ e .takes ++ τ) × (σ′ ≡ e .leaves ++ τ)
   unfolding effect
   effect-is e σ h =
       let (τ, p, q) = bind-some (strip same (e .takes) σ) (λ τ. some (e .leaves ++ τ)) h in

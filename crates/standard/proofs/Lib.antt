@@ -17,8 +17,6 @@ pub mod WellTokens
 pub mod Scan
 pub mod Reading
 pub mod Again
-pub mod Bare
-pub mod Plant
 pub mod Shades
 pub mod Clear
 pub mod Told

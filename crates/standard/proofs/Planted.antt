@@ -17,8 +17,8 @@ use Rattle.unparse.specs.Operators.{comparisonOf}
 use Rattle.standard.specs.Erase.{comparisonFrom, ofKind, erase, said}
 use Rattle.standard.specs.Alike.{places, bytesAt}
 use Rattle.standard.proofs.Fine.{Fine}
-use Rattle.standard.proofs.Bare.{b-node, b-nil, b-more, b-one, b-full, b-first, b-link, placesOf, bare}
-use Rattle.standard.proofs.Plant.{comparisonNumber, plant}
+use Rattle.standard.specs.Bare.{b-node, b-nil, b-more, b-one, b-full, b-first, b-link, placesOf, bare}
+use Rattle.standard.specs.Plant.{comparisonNumber, plant}
 use Rattle.standard.proofs.Clear.{Open, Clear}
 use Rattle.standard.proofs.Told.{Kin, an-item, the-else, the-script, no-kin, kin, Leaves, Tells, Told, ToldG, ToldW, ToldO, B, Row, Of, OfKind, tells}
 use Rattle.standard.proofs.ToldExprs as exprs
@@ -28,6 +28,10 @@ use Rattle.standard.proofs.ToldStmts as statements
 abbrev Cases : (ℕ → Type 0) → ℕ → Type 0
 Cases Q zero = (k : ℕ) → Q k
 Cases Q (suc n) = Q 0 × Cases (λ k. Q (suc k)) n
+
+infixr 20 _&_
+abbrev _&_ : {A C : Type 0} → A → C → A × C
+_&_ x y = (x, y)
 
 by-cases : (Q : ℕ → Type 0) (n : ℕ) → Cases Q n → (k : ℕ) → Q k
 by-cases Q zero c k = c k
@@ -40,100 +44,44 @@ comparison-number w h = each (λ w. comparisonNumber (comparisonFrom w) ≡ w) w
 
 module _ (W : Word → Load → Type 0) (L : to.Literal → Load → Type 0) (source text : List ℕ) (toks : List Token) (leaves : Leaves W L source text toks) where
   kinded : (k : ℕ) → OfKind W L source text toks k
-  kinded = by-cases (OfKind W L source text toks) 35 (
-    (λ r h f w. tt),
-    (
-      statements.of-Program W L source text toks leaves,
-      (
-        statements.of-If W L source text toks leaves,
-        (
-          statements.of-While W L source text toks leaves,
-          (
-            statements.of-For W L source text toks leaves,
-            (
-              statements.of-Def W L source text toks leaves,
-              (
-                statements.of-Return W L source text toks leaves,
-                (
-                  statements.of-Assign W L source text toks leaves,
-                  (
-                    statements.of-Class W L source text toks leaves,
-                    (
-                      statements.of-Break W L source text toks leaves,
-                      (
-                        statements.of-Continue W L source text toks leaves,
-                        (
-                          statements.of-Pass W L source text toks leaves,
-                          (
-                            statements.of-Expr W L source text toks leaves,
-                            (
-                              statements.of-Method W L source text toks leaves,
-                              (
-                                statements.of-Elif W L source text toks leaves,
-                                (
-                                  statements.of-Else W L source text toks leaves,
-                                  (
-                                    exprs.of-Name W L source text toks leaves,
-                                    (
-                                      exprs.of-Pair W L source text toks leaves,
-                                      (
-                                        exprs.of-Bool W L source text toks leaves,
-                                        (
-                                          exprs.of-Int W L source text toks leaves,
-                                          (
-                                            exprs.of-String W L source text toks leaves,
-                                            (
-                                              exprs.of-Float W L source text toks leaves,
-                                              (
-                                                exprs.of-None W L source text toks leaves,
-                                                (
-                                                  exprs.of-Variable W L source text toks leaves,
-                                                  (
-                                                    exprs.of-Unary W L source text toks leaves,
-                                                    (
-                                                      exprs.of-Binary W L source text toks leaves,
-                                                      (
-                                                        exprs.of-Call W L source text toks leaves,
-                                                        (
-                                                          exprs.of-Attribute W L source text toks leaves,
-                                                          (
-                                                            exprs.of-List W L source text toks leaves,
-                                                            (
-                                                              exprs.of-Dict W L source text toks leaves,
-                                                              (
-                                                                exprs.of-Tuple W L source text toks leaves,
-                                                                (exprs.of-Set W L source text toks leaves, (exprs.of-TreeSet W L source text toks leaves, (exprs.of-Index W L source text toks leaves, (exprs.of-Lambda W L source text toks leaves, (λ k r h f w. tt))))),
-                                                              ),
-                                                            ),
-                                                          ),
-                                                        ),
-                                                      ),
-                                                    ),
-                                                  ),
-                                                ),
-                                              ),
-                                            ),
-                                          ),
-                                        ),
-                                      ),
-                                    ),
-                                  ),
-                                ),
-                              ),
-                            ),
-                          ),
-                        ),
-                      ),
-                    ),
-                  ),
-                ),
-              ),
-            ),
-          ),
-        ),
-      ),
-    ),
-  )
+  kinded =
+      by-cases (OfKind W L source text toks) 35
+      ((λ r h f w. tt)
+      & statements.of-Program W L source text toks leaves
+      & statements.of-If W L source text toks leaves
+      & statements.of-While W L source text toks leaves
+      & statements.of-For W L source text toks leaves
+      & statements.of-Def W L source text toks leaves
+      & statements.of-Return W L source text toks leaves
+      & statements.of-Assign W L source text toks leaves
+      & statements.of-Class W L source text toks leaves
+      & statements.of-Break W L source text toks leaves
+      & statements.of-Continue W L source text toks leaves
+      & statements.of-Pass W L source text toks leaves
+      & statements.of-Expr W L source text toks leaves
+      & statements.of-Method W L source text toks leaves
+      & statements.of-Elif W L source text toks leaves
+      & statements.of-Else W L source text toks leaves
+      & exprs.of-Name W L source text toks leaves
+      & exprs.of-Pair W L source text toks leaves
+      & exprs.of-Bool W L source text toks leaves
+      & exprs.of-Int W L source text toks leaves
+      & exprs.of-String W L source text toks leaves
+      & exprs.of-Float W L source text toks leaves
+      & exprs.of-None W L source text toks leaves
+      & exprs.of-Variable W L source text toks leaves
+      & exprs.of-Unary W L source text toks leaves
+      & exprs.of-Binary W L source text toks leaves
+      & exprs.of-Call W L source text toks leaves
+      & exprs.of-Attribute W L source text toks leaves
+      & exprs.of-List W L source text toks leaves
+      & exprs.of-Dict W L source text toks leaves
+      & exprs.of-Tuple W L source text toks leaves
+      & exprs.of-Set W L source text toks leaves
+      & exprs.of-TreeSet W L source text toks leaves
+      & exprs.of-Index W L source text toks leaves
+      & exprs.of-Lambda W L source text toks leaves
+      & (λ k r h f w. tt))
 
   -- lists, by what they have as members
   nil-told : (c : Kin) → ToldW W L c (erase source text nil) b-nil (Clear nil)

@@ -10,7 +10,7 @@ use lib.ListN.{length, getD, drop}
 use Rattle.grammar.specs.Sets.{mem}
 use Rattle.ast.specs.Kind as kind
 use Rattle.ast.specs.Node as field
-use Rattle.trees.proofs.Apt.{each}
+use Rattle.trees.proofs.Apt.{Each, each}
 use Rattle.ast.specs.Node.{Field, Node, none, fieldsOf}
 use Rattle.token.specs.Code as token
 use Rattle.ast.specs.Operator.{binaryOp}
@@ -18,7 +18,7 @@ use Rattle.trees.specs.Tree.{Part, single, chain, growing, whole, row, Tree, no
 use Rattle.trees.specs.Flat.{size, top, head, headG, operand, fields, filled, onto, flat}
 use Rattle.trees.specs.Flat as flat
 use Rattle.standard.specs.Alike.{Shade, places, hidden, chosen, bytesAt, shade}
-use Rattle.standard.proofs.Bare.{Bare, placesOf, bare, sizeB, headB, operandB, fieldsB, binaryB, ontoB}
+use Rattle.standard.specs.Bare.{Bare, placesOf, bare, sizeB, headB, operandB, fieldsB, binaryB, ontoB}
 
 four-is : (l : List ℕ) → length l ≡ 4 → getD l 0 0 ∷ getD l 1 0 ∷ getD l 2 0 ∷ getD l 3 0 ∷ [] ≡ l
 four-is [] h = absurd (omega arith)
@@ -49,24 +49,34 @@ abbrev Only : List Bool → List Field → Type 0
 Only bs [] = Unit {0}
 Only bs (f ∷ fs) = (T (getD bs 0 false) → T (wordy f)) × Only (drop 1 bs) fs
 
-only-words : (k : ℕ) → Only (places k) (shape k)
-only-words k =
-    go (mem k fronts) (λ h. each (λ k. Only (true ∷ true ∷ []) (shape k)) k fronts (ones kind.For, (ones kind.Def, (ones kind.Class, (ones kind.Method, (ones kind.Name, (ones kind.String, (ones kind.Variable, tt))))))) h)
-    (eqb k kind.Attribute) (λ h. subst (λ (k : ℕ). Only (false ∷ true ∷ true ∷ []) (shape k)) (sym (eqb→eq k kind.Attribute h)) ((λ u. absurd u), ((λ u. tt), ((λ u. tt), ((λ u. absurd u), tt)))))
-    (eqb k kind.Float) (λ h. subst (λ (k : ℕ). Only (false ∷ false ∷ true ∷ true ∷ []) (shape k)) (sym (eqb→eq k kind.Float h)) ((λ u. absurd u), ((λ u. absurd u), ((λ u. tt), ((λ u. tt), tt)))))
+-- the kinds whose place is in their first two fields; and every kind, by which of its fields are a place
+abbrev pub fronts : List ℕ
+fronts = kind.For ∷ kind.Def ∷ kind.Class ∷ kind.Method ∷ kind.Name ∷ kind.String ∷ kind.Variable ∷ []
+
+pub by-places : (Q : ℕ → List Bool → Type 0) → Each (λ k. Q k (true ∷ true ∷ [])) fronts → Q kind.Attribute (false ∷ true ∷ true ∷ []) → Q kind.Float (false ∷ false ∷ true ∷ true ∷ []) →
+    ((k : ℕ) → Q k []) → (k : ℕ) → Q k (places k)
+by-places Q f g h n k =
+    go (mem k fronts) (each (λ k. Q k (true ∷ true ∷ [])) k fronts f)
+    (eqb k kind.Attribute) (λ u. subst (λ (k : ℕ). Q k (false ∷ true ∷ true ∷ [])) (sym (eqb→eq k kind.Attribute u)) g)
+    (eqb k kind.Float) (λ u. subst (λ (k : ℕ). Q k (false ∷ false ∷ true ∷ true ∷ [])) (sym (eqb→eq k kind.Float u)) h)
   where
-    fronts : List ℕ
-    fronts = kind.For ∷ kind.Def ∷ kind.Class ∷ kind.Method ∷ kind.Name ∷ kind.String ∷ kind.Variable ∷ []
-
-    ones : (k : ℕ) → Only (true ∷ true ∷ []) (field.word ∷ field.word ∷ fieldsOf k .r ∷ fieldsOf k .s ∷ [])
-    ones k = ((λ u. tt), ((λ u. tt), ((λ u. absurd u), ((λ u. absurd u), tt))))
-
-    go : (a : Bool) → (T a → Only (true ∷ true ∷ []) (shape k)) → (b : Bool) → (T b → Only (false ∷ true ∷ true ∷ []) (shape k)) → (c : Bool) → (T c → Only (false ∷ false ∷ true ∷ true ∷ []) (shape k)) →
-        Only (cond a (true ∷ true ∷ []) (cond b (false ∷ true ∷ true ∷ []) (cond c (false ∷ false ∷ true ∷ true ∷ []) []))) (shape k)
+    go : (a : Bool) → (T a → Q k (true ∷ true ∷ [])) → (b : Bool) → (T b → Q k (false ∷ true ∷ true ∷ [])) → (c : Bool) → (T c → Q k (false ∷ false ∷ true ∷ true ∷ [])) →
+        Q k (cond a (true ∷ true ∷ []) (cond b (false ∷ true ∷ true ∷ []) (cond c (false ∷ false ∷ true ∷ true ∷ []) [])))
     go true f b g c h = f tt
     go false f true g c h = g tt
     go false f false g true h = h tt
-    go false f false g false h = ((λ u. absurd u), ((λ u. absurd u), ((λ u. absurd u), ((λ u. absurd u), tt))))
+    go false f false g false h = n k
+
+only-words : (k : ℕ) → Only (places k) (shape k)
+only-words =
+    by-places (λ k bs. Only bs (shape k))
+    (ones kind.For, (ones kind.Def, (ones kind.Class, (ones kind.Method, (ones kind.Name, (ones kind.String, (ones kind.Variable, tt)))))))
+    ((λ u. absurd u), ((λ u. tt), ((λ u. tt), ((λ u. absurd u), tt))))
+    ((λ u. absurd u), ((λ u. absurd u), ((λ u. tt), ((λ u. tt), tt))))
+    (λ k. ((λ u. absurd u), ((λ u. absurd u), ((λ u. absurd u), ((λ u. absurd u), tt)))))
+  where
+    ones : (k : ℕ) → Only (true ∷ true ∷ []) (field.word ∷ field.word ∷ fieldsOf k .r ∷ fieldsOf k .s ∷ [])
+    ones k = ((λ u. tt), ((λ u. tt), ((λ u. absurd u), ((λ u. absurd u), tt))))
 
 -- the first field, if it is no place; and if it may be one
 stays : (bs : List Bool) (w : ℕ) (ws : List ℕ) → (T (getD bs 0 false) → ⊥) → hidden bs (w ∷ ws) ≡ w ∷ hidden (drop 1 bs) ws

@@ -21,8 +21,8 @@ use Rattle.standard.specs.Erase.{nameIn, ofKind, erase}
 use Rattle.standard.specs.Alike.{places, bytesAt}
 use Rattle.standard.proofs.Clear.{Open, Clear}
 use Rattle.standard.proofs.Fine.{Fine}
-use Rattle.standard.proofs.Bare.{Bare, b-node, b-one, b-full, placesOf, bare}
-use Rattle.standard.proofs.Plant.{plant}
+use Rattle.standard.specs.Bare.{Bare, b-node, b-one, b-full, placesOf, bare}
+use Rattle.standard.specs.Plant.{plant}
 
 -- what the words of a literal of the kind k stand for
 abbrev pub sortAt : ℕ → to.Literal

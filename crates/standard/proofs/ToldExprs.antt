@@ -21,8 +21,8 @@ use Rattle.unparse.specs.Brackets.{filled, enclosing, severalOf, tupleOf}
 use Rattle.unparse.specs.Operators.{signOf, opOf}
 use Rattle.standard.specs.Erase.{signFrom, opFrom, nameIn, ofKind, erase}
 use Rattle.standard.proofs.Fine.{Fine}
-use Rattle.standard.proofs.Bare.{Bare, b-node, b-word, b-child, b-list, b-more, b-full, placesOf, bare}
-use Rattle.standard.proofs.Plant.{free₁, free₂, free₃, free₄, spelling, signNumber, opNumber, plant}
+use Rattle.standard.specs.Bare.{Bare, b-node, b-word, b-child, b-list, b-more, b-full, placesOf, bare}
+use Rattle.standard.specs.Plant.{free₁, free₂, free₃, free₄, spelling, signNumber, opNumber, plant}
 use Rattle.standard.proofs.Clear.{Clear}
 use Rattle.standard.proofs.Told.{Leaves, OfKind, tells}
 

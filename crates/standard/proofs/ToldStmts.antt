@@ -18,8 +18,8 @@ use Rattle.unparse.specs.Brackets.{filled, enclosing}
 use Rattle.standard.specs.Erase.{ofKind, erase}
 use Rattle.standard.proofs.Fine.{Fine}
 use Rattle.standard.proofs.Fine as fine
-use Rattle.standard.proofs.Bare.{b-node, b-end, b-word, b-child, b-list, b-one, b-full, placesOf, bare}
-use Rattle.standard.proofs.Plant.{free₁, free₂, free₃, plant}
+use Rattle.standard.specs.Bare.{b-node, b-end, b-word, b-child, b-list, b-one, b-full, placesOf, bare}
+use Rattle.standard.specs.Plant.{free₁, free₂, free₃, plant}
 use Rattle.standard.proofs.Clear.{Clear}
 use Rattle.standard.proofs.Told.{Leaves, OfKind, tells}
 use Rattle.standard.proofs.ToldExprs.{spell-is}

@@ -14,8 +14,8 @@ use Rattle.unparse.specs.Levels.{X}
 use Rattle.unparse.proofs.Write.{write, need}
 use Rattle.standard.specs.Erase.{said}
 use Rattle.standard.specs.Alike.{shade, Alike}
-use Rattle.standard.proofs.Bare.{bare, ontoB}
-use Rattle.standard.proofs.Plant.{plant}
+use Rattle.standard.specs.Bare.{bare, ontoB}
+use Rattle.standard.specs.Plant.{plant}
 use Rattle.standard.proofs.Signs.{plain, signs}
 use Rattle.standard.proofs.SignIn.{signIn}
 use Rattle.standard.proofs.Scan.{plain-tokens}

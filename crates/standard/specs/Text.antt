@@ -1,4 +1,5 @@
--- The standard text of a script (02, change 6), over what its tree says.
+-- The standard text of a script (02, change 6), over what its tree says. "and no other blank": the blanks are those of `operator`, `after`, `led`, `colon`, `comma`, `line`
+-- and the one before `in`.
 -- Assumes nothing.
 use Prim.Native.Nat.{ℕ, suc, _*_}
 use mathlib.Core.List.{List, [], _∷_, _++_}

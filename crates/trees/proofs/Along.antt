@@ -15,7 +15,8 @@ use Rattle.grammar.specs.Trial.{Machine, St, Parser, seqP, altP, loop, manyP, s
 use Rattle.grammar.specs.Flow.{Effect, bind, alike, effect}
 use Rattle.grammar.proofs.Begin.{On, on-ok, on-fail, on-out, on-then, on-else, on-stay, on-map, on-if}
 use Rattle.trees.proofs.Flow.{Since, still, took, later, anything, after, is-still, steady, entry, State, state, Moves, flow, Flows}
-use Rattle.trees.proofs.Decoded.{some-is, bind-some, provided-some, alike-is, effect-is}
+use Rattle.grammar.proofs.Flow.{some-is, bind-some, alike-is, effect-is}
+use Rattle.trees.proofs.Decoded.{provided-some}
 
 module _ {S : Type 0} (same : Discrete S) where
   module _ {Act R : Type 0} (F : Moves S Act R) {M : Machine Act} (Good : Since → List S → St M → Type 0)

@@ -25,7 +25,8 @@ use Rattle.trees.specs.Tree.{whole, Tree, nil}
 use Rattle.trees.specs.Roles.{Cat, nothing, script, Few, Proper, p-nil}
 use Rattle.trees.specs.Law.{TreeOf}
 use Rattle.trees.proofs.Flow.{anything, provided, flow, Flows}
-use Rattle.trees.proofs.Decoded.{none-is, some-is, bind-some, where-some, provided-some, alike-is}
+use Rattle.grammar.proofs.Flow.{none-is, some-is, bind-some, where-some, alike-is}
+use Rattle.trees.proofs.Decoded.{provided-some}
 use Rattle.trees.proofs.Along.{good-trial}
 use Rattle.trees.proofs.Stack.{bottom, _▸_, count, nodes, values, behind, past, lay}
 use Rattle.trees.proofs.Apt.{apt}

@@ -92,7 +92,7 @@ pub data Tree : Sort → Type 0 where
   otherwise : Tree (list Stmt) → Tree other
   program : Tree (list Stmt) → Tree script
 
--- the code of the token of each; the kind of node of a statement of one word
+-- the code of the token of each; the kind of node of a statement of one word. `literalCode`, `wordCode` and `aloneKind` are cited by proofs alone
 abbrev pub literalCode : Literal → ℕ
 literalCode int = token.Int
 literalCode bool = token.Bool

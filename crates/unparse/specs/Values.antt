@@ -1,4 +1,5 @@
--- What the machine of erased trees has at hand for each action: a value has a tree of each sort, of which those that its action makes matter.
+-- What a part of a tree comes to where it is erased (standard/specs/Erase.antt): a value has a tree of each sort, of which that of its own sort matters. `load`, `signs`,
+-- `links`, `theSigns` and `theChain` are there for the machine that builds erased trees (proofs/Machine.antt), and no definition cites them.
 -- Assumes nothing.
 use Prim.Native.Nat.{ℕ}
 use mathlib.Core.List.{List, []}

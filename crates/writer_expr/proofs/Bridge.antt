@@ -2,7 +2,7 @@
 -- Assumes nothing.
 use mathlib.Core.Path.{_≡_, refl, sym, ap, _∙_}
 use mathlib.Core.List.{List, [], _∷_, _++_, append-assoc, append-nil, map}
-use Prim.Native.Nat.{ℕ, _+_, _-_, _*_, _≤_, _<_}
+use Prim.Native.Nat.{ℕ, _+_, _*_, _≤_, _<_}
 use native.Mathlib.Omega.{arith}
 use lib.ListN.{length, getD, length-append, length-map, List·getD-map}
 use lib.Seq.{getD-at}
@@ -14,8 +14,8 @@ use Rattle.ast.specs.Words.{nodeAt, nodesOf}
 use Rattle.ast.proofs.Nodes.{length-nodes, node-there}
 use Rattle.unparse.specs.Trees.{Sort, Tree}
 use Rattle.standard.specs.Alike.{Shade, places, chosen, shade}
-use Rattle.standard.proofs.Bare.{Bare, b-node, b-end, b-nil, b-word, b-child, b-list, b-more, b-one, b-full, b-first, b-link, sizeB, topB, headB, operandB, fieldsB, binaryB, ontoB}
-use Rattle.standard.proofs.Plant.{plant}
+use Rattle.standard.specs.Bare.{Bare, b-node, b-end, b-nil, b-word, b-child, b-list, b-more, b-one, b-full, b-first, b-link, sizeB, topB, headB, operandB, fieldsB, binaryB, ontoB}
+use Rattle.standard.specs.Plant.{plant}
 use Rattle.writer_expr.specs.Laid.{fieldsAt, Inside, Root, Laid, Stands}
 
 -- ---- lists of shades that begin with others

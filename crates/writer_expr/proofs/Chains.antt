@@ -10,8 +10,8 @@ use Rattle.ast.specs.Kind as kind
 use Rattle.ast.specs.Operator.{binaryOp}
 use Rattle.unparse.specs.Trees.{Expr, a, chain, Op, Comparison, Tree}
 use Rattle.unparse.specs.Trees as tree
-use Rattle.standard.proofs.Bare.{Bare, b-node, b-word, b-child, b-first, b-link, sizeB, topB, operandB, fieldsB}
-use Rattle.standard.proofs.Plant.{plant, free₁, opNumber, comparisonNumber}
+use Rattle.standard.specs.Bare.{Bare, b-node, b-word, b-child, b-first, b-link, sizeB, topB, operandB, fieldsB}
+use Rattle.standard.specs.Plant.{plant, free₁, opNumber, comparisonNumber}
 use Rattle.writer_expr.specs.Levels.{rankOf, textOf}
 use Rattle.writer_expr.specs.Laid.{Laid, Stands, exprs, kindAt, wordAt}
 use Rattle.writer_expr.specs.Forms.{Linked, ruleAt}

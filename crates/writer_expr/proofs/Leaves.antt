@@ -18,8 +18,8 @@ use Rattle.ast.specs.Words.{nodeAt}
 use Rattle.unparse.specs.Trees.{Sort, a, Name, Literal, Word, Load, Tree}
 use Rattle.unparse.specs.Trees as tree
 use Rattle.standard.specs.Text.{text, fitText}
-use Rattle.standard.proofs.Bare.{sizeB, fieldsB}
-use Rattle.standard.proofs.Plant.{plant}
+use Rattle.standard.specs.Bare.{sizeB, fieldsB}
+use Rattle.standard.specs.Plant.{plant}
 use Rattle.writer_expr.specs.Levels.{textOf}
 use Rattle.writer_expr.specs.Laid.{Laid, Stands}
 use Rattle.writer_expr.specs.Forms.{leafText, Leaf}

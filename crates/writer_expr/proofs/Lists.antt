@@ -8,8 +8,8 @@ use Rattle.ast.specs.Node.{none}
 use Rattle.unparse.specs.Trees.{Item, a, some, list, Tree}
 use Rattle.unparse.specs.Trees as tree
 use Rattle.standard.specs.Text.{text, comma}
-use Rattle.standard.proofs.Bare.{sizeB, headB}
-use Rattle.standard.proofs.Plant.{plant}
+use Rattle.standard.specs.Bare.{sizeB, headB}
+use Rattle.standard.specs.Plant.{plant}
 use Rattle.writing.specs.Wrote.{Wrote}
 use Rattle.writing.proofs.Writes.{nothing, then, same}
 use Rattle.writer_expr.specs.Levels.{textOf}

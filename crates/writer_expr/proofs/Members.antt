@@ -12,8 +12,8 @@ use Rattle.ast.specs.Words.{nodeAt}
 use Rattle.unparse.specs.Trees.{Item, Expr, Pair, a, Tree}
 use Rattle.unparse.specs.Trees as tree
 use Rattle.standard.specs.Text.{text, colon}
-use Rattle.standard.proofs.Bare.{sizeB, fieldsB}
-use Rattle.standard.proofs.Plant.{plant}
+use Rattle.standard.specs.Bare.{sizeB, fieldsB}
+use Rattle.standard.specs.Plant.{plant}
 use Rattle.writing.specs.Wrote.{Wrote}
 use Rattle.writing.proofs.Writes.{then, same}
 use Rattle.writer_expr.specs.Levels.{textAt, textOf}

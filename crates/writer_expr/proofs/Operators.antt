@@ -18,7 +18,7 @@ use Rattle.unparse.specs.Trees.{Sign, Op, Comparison, a, Expr, chain, Tree, sig
 use Rattle.unparse.specs.Trees as tree
 use Rattle.unparse.specs.Levels.{G, U, levelOf}
 use Rattle.standard.specs.Text.{text, fitText, operator}
-use Rattle.standard.proofs.Plant.{signNumber, opNumber, comparisonNumber}
+use Rattle.standard.specs.Plant.{signNumber, opNumber, comparisonNumber}
 use Rattle.writer_expr.specs.Levels.{rank, textAt, textOf, operatorOf, signOf, ruleOf, leftOf}
 
 -- an operator between its operands; the last one of a chain; a sign before its operand

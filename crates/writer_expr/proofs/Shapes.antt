@@ -9,8 +9,8 @@ use Rattle.ast.specs.Kind as kind
 use Rattle.unparse.specs.Trees.{Item, Expr, Sort, a, some, chain, several, Op, Comparison, Literal, Bracket, Void, Tree}
 use Rattle.unparse.specs.Trees as tree
 use Rattle.standard.specs.Text.{text}
-use Rattle.standard.proofs.Bare.{Bare, b-node, b-end, b-nil, b-word, b-child, b-list, b-more, b-one, b-full, b-first, b-link, sizeB, headB, operandB}
-use Rattle.standard.proofs.Plant.{plant}
+use Rattle.standard.specs.Bare.{Bare, b-node, b-end, b-nil, b-word, b-child, b-list, b-more, b-one, b-full, b-first, b-link, sizeB, headB, operandB}
+use Rattle.standard.specs.Plant.{plant}
 use Rattle.writer_expr.specs.Levels.{rankOf, textOf}
 use Rattle.writer_expr.specs.Laid.{Root, Laid, Inline, exprs, names, pairs, Stands, kindAt}
 use Rattle.writer_expr.specs.Forms.{ruleAt}

@@ -3,7 +3,7 @@
 use mathlib.Core.Path.{_≡_, refl, sym, ap, _∙_, subst}
 use mathlib.Core.Bool.{false, cond}
 use mathlib.Core.List.{List, [], _∷_, _++_, append-assoc, append-nil}
-use Prim.Native.Nat.{ℕ, _+_, _-_}
+use Prim.Native.Nat.{ℕ, _-_}
 use native.Mathlib.Omega.{arith}
 use borrow.Author.Tests.{eq-eqb, ne-eqb}
 use lib.Dec.{eqb}
@@ -14,8 +14,8 @@ use Rattle.ast.specs.Node.{none}
 use Rattle.unparse.specs.Trees.{Expr, Name, a, some, list, Void, Tree}
 use Rattle.unparse.specs.Trees as tree
 use Rattle.standard.specs.Text.{text, fitText, within, voidText, led}
-use Rattle.standard.proofs.Bare.{sizeB, headB}
-use Rattle.standard.proofs.Plant.{plant}
+use Rattle.standard.specs.Bare.{sizeB, headB}
+use Rattle.standard.specs.Plant.{plant}
 use Rattle.writing.specs.Wrote.{Wrote}
 use Rattle.writing.proofs.Writes.{then, same}
 use Rattle.writer_expr.specs.Levels.{textOf, textWhole}

@@ -2,7 +2,7 @@
 -- Assumes nothing.
 use mathlib.Core.Path.{_≡_}
 use mathlib.Core.List.{List, _++_}
-use Prim.Native.Nat.{ℕ, _+_, _-_, _≤_}
+use Prim.Native.Nat.{ℕ, _-_, _≤_}
 use lib.ListN.{length}
 use Rattle.source.specs.Bytes.{part}
 use Rattle.rendered.specs.Spelled.{spelledFixed}
@@ -11,8 +11,8 @@ use Rattle.unparse.specs.Trees.{Item, Expr, Name, a, some, list, Void, Tree}
 use Rattle.unparse.specs.Trees as tree
 use Rattle.unparse.specs.Levels.{T}
 use Rattle.standard.specs.Text.{text, within, voidText, led, colon}
-use Rattle.standard.proofs.Bare.{headB}
-use Rattle.standard.proofs.Plant.{plant}
+use Rattle.standard.specs.Bare.{headB}
+use Rattle.standard.specs.Plant.{plant}
 use Rattle.writer_expr.specs.Levels.{textAt, textOf}
 use Rattle.writer_expr.specs.Laid.{Stands, Inline, wordAt}
 use Rattle.writer_expr.specs.Forms.{Form, binary, unary, call, attribute, index, lambda, tuple, enclosed, leaf, opens, closes}

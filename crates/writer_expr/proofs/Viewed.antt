@@ -2,23 +2,23 @@
 -- Assumes nothing.
 use mathlib.Core.Path.{_≡_, refl, sym, ap, _∙_, subst}
 use mathlib.Core.List.{List, [], _∷_}
-use Prim.Native.Nat.{ℕ, _+_, _-_}
+use Prim.Native.Nat.{ℕ, _+_}
 use native.Mathlib.Omega.{arith}
 use borrow.Author.Tests.{ne-eqb}
 use Rattle.source.proofs.Ranges.{NotIn}
 use Rattle.ast.specs.Kind as kind
-use Rattle.unparse.specs.Trees.{Expr, Name, Pair, a, several, Literal, Bracket, Void, Word, Tree}
+use Rattle.unparse.specs.Trees.{Item, Expr, Name, Pair, a, several, Literal, Bracket, Void, Word, Tree}
 use Rattle.unparse.specs.Trees as tree
 use Rattle.standard.specs.Text.{text, fitText}
-use Rattle.standard.proofs.Bare.{Bare, sizeB, headB, fieldsB}
-use Rattle.standard.proofs.Plant.{plant, spelling}
+use Rattle.standard.specs.Bare.{Bare, sizeB, headB, fieldsB}
+use Rattle.standard.specs.Plant.{plant, spelling}
 use Rattle.writer_expr.specs.Levels.{textOf}
-use Rattle.writer_expr.specs.Laid.{Laid, Stands, exprs, pairs, kindAt}
+use Rattle.writer_expr.specs.Laid.{Laid, Stands, Inline, exprs, pairs, kindAt, wordAt}
 use Rattle.writer_expr.specs.Forms.{Form, leaf, formOf, Linked, opens, closes}
 use Rattle.writer_expr.proofs.Shapes.{rooted, field-is, kindB, kind-is, inner, grown, grown-plant, grown-text}
 use Rattle.writer_expr.proofs.Leaves.{literal-view, variable-view}
 use Rattle.writer_expr.proofs.Operators.{signText, op-text, compare-text, sign-text}
-use Rattle.writer_expr.proofs.View.{View, Tuple, insideText}
+use Rattle.writer_expr.proofs.View.{View, Bracketed, Tuple, insideText, enclosedText}
 use Rattle.writer_expr.proofs.Chains.{op-words, compare-words, chain-words, joined}
 
 -- a name's text is its bytes
@@ -33,6 +33,11 @@ inside-grown (tree.both x y) = refl
 inside-grown (tree.also l x) = refl
 
 module _ (src txt tr : List ℕ) where
+  -- a list in its brackets
+  bracketed : {b e k : ℕ} {x : Tree (a Expr)} → Stands src txt tr b x e → {i : Item} → Inline i → (l : Tree (tree.list i)) → textOf x ≡ enclosedText k l → Laid src txt tr b (plant l) → e ≡ b + sizeB (plant l) + 1 →
+      wordAt tr e 4 ≡ headB b (plant l) → Bracketed k src txt tr b x e
+  bracketed s {i} n l t d h p = record { item = i; inline = n; list = l; says = t; behind = inner src txt tr s l d (omega arith) (omega arith); head = p }
+
   tuple-view : (b e : ℕ) (l : Tree several) → Stands src txt tr b (tree.tuple l) e → Tuple src txt tr b (tree.tuple l) e
   unfolding Laid sizeB fieldsB headB plant text fitText
   tuple-view b e l s =
@@ -92,60 +97,15 @@ module _ (src txt tr : List ℕ) where
         head = q;
       }
   viewed b e (tree.bracket Bracket.squares l) s plain =
-      let r = rooted e (omega (arith, s .ends)) (s .laid .1) in
-      let p = field-is 0 (r .fields) in
-      record {
-        item = Expr;
-        inline = exprs;
-        list = l;
-        says = refl;
-        behind = inner src txt tr s l (s .laid .0 .0) (omega (arith, s .ends)) (omega arith);
-        head = p;
-      }
+      bracketed s exprs l refl (s .laid .0 .0) (omega (arith, s .ends)) (field-is 0 (rooted e (omega (arith, s .ends)) (s .laid .1) .fields))
   viewed b e (tree.bracket Bracket.treeset l) s plain =
-      let r = rooted e (omega (arith, s .ends)) (s .laid .1) in
-      let p = field-is 0 (r .fields) in
-      record {
-        item = Expr;
-        inline = exprs;
-        list = l;
-        says = refl;
-        behind = inner src txt tr s l (s .laid .0 .0) (omega (arith, s .ends)) (omega arith);
-        head = p;
-      }
+      bracketed s exprs l refl (s .laid .0 .0) (omega (arith, s .ends)) (field-is 0 (rooted e (omega (arith, s .ends)) (s .laid .1) .fields))
   viewed b e (tree.void Void.no-pairs) s plain =
-      let r = rooted e (omega (arith, s .ends)) (s .laid .1) in
-      let p = field-is 0 (r .fields) in
-      record {
-        item = Pair;
-        inline = pairs;
-        list = tree.nil {i = Pair};
-        says = refl;
-        behind = inner src txt tr s (tree.nil {i = Pair}) (s .laid .0 .0) (omega (arith, s .ends)) (omega arith);
-        head = p;
-      }
+      bracketed s pairs (tree.nil {i = Pair}) refl (s .laid .0 .0) (omega (arith, s .ends)) (field-is 0 (rooted e (omega (arith, s .ends)) (s .laid .1) .fields))
   viewed b e (tree.dict l) s plain =
-      let r = rooted e (omega (arith, s .ends)) (s .laid .1) in
-      let p = field-is 0 (r .fields) in
-      record {
-        item = Pair;
-        inline = pairs;
-        list = tree.full l;
-        says = refl;
-        behind = inner src txt tr s (tree.full l) (s .laid .0 .0) (omega (arith, s .ends)) (omega arith);
-        head = p;
-      }
+      bracketed s pairs (tree.full l) refl (s .laid .0 .0) (omega (arith, s .ends)) (field-is 0 (rooted e (omega (arith, s .ends)) (s .laid .1) .fields))
   viewed b e (tree.set l) s plain =
-      let r = rooted e (omega (arith, s .ends)) (s .laid .1) in
-      let p = field-is 0 (r .fields) in
-      record {
-        item = Expr;
-        inline = exprs;
-        list = tree.full l;
-        says = refl;
-        behind = inner src txt tr s (tree.full l) (s .laid .0 .0) (omega (arith, s .ends)) (omega arith);
-        head = p;
-      }
+      bracketed s exprs (tree.full l) refl (s .laid .0 .0) (omega (arith, s .ends)) (field-is 0 (rooted e (omega (arith, s .ends)) (s .laid .1) .fields))
   viewed b e (tree.void Void.no-members) s plain =
       let r = rooted e (omega (arith, s .ends)) (s .laid .1) in
       let p = field-is 0 (r .fields) in

@@ -1,4 +1,4 @@
--- The forms of the nodes of expressions, by what the code reads of them.
+-- The forms of the nodes of expressions, by what the code reads of them. Contracts of inner functions alone cite this; what the writer promises stands in `writer`.
 -- Assumes nothing.
 use Prim.Native.Nat.{ℕ, zero, suc, _+_, _-_, _≤_, _<_}
 use mathlib.Core.Path.{_≡_}

@@ -1,4 +1,4 @@
--- Words of a tree that hold an erased tree.
+-- Words of a tree that hold an erased tree. Contracts of inner functions alone cite this; what the writer promises stands in `writer`.
 -- Assumes nothing.
 use Prim.Native.Nat.{ℕ, _+_, _-_, _*_, _≤_}
 use mathlib.Core.Path.{_≡_}
@@ -13,8 +13,8 @@ use Rattle.ast.specs.Operator.{binaryOp}
 use Rattle.ast.specs.Words.{nodeAt}
 use Rattle.unparse.specs.Trees.{Item, Expr, Name, Pair, Sort, a, some, list, Tree}
 use Rattle.standard.specs.Alike.{places, hidden, chosen, bytesAt}
-use Rattle.standard.proofs.Bare.{Bare, b-node, b-end, b-nil, b-word, b-child, b-list, b-more, b-one, b-full, b-first, b-link, sizeB, topB, headB, operandB, fieldsB}
-use Rattle.standard.proofs.Plant.{plant}
+use Rattle.standard.specs.Bare.{Bare, b-node, b-end, b-nil, b-word, b-child, b-list, b-more, b-one, b-full, b-first, b-link, sizeB, topB, headB, operandB, fieldsB}
+use Rattle.standard.specs.Plant.{plant}
 
 -- the kind of the node before e, and the word j of its record
 abbrev pub kindAt : List ℕ → ℕ → ℕ

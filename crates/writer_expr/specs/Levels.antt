@@ -1,5 +1,5 @@
 -- The rules of expressions by number, as the code has them: 0 an E, 1 O, 2 A, 3 C, 4 S, 5 P, 6 a U, 7 F (01, Grammar). A text that fits a rule fits those
--- before it.
+-- before it. Contracts of inner functions alone cite this; what the writer promises stands in `writer`.
 -- Assumes nothing.
 use Prim.Native.Nat.{ℕ}
 use mathlib.Core.Bool.{cond}
@@ -67,7 +67,7 @@ operatorOf op = getD (token.Or ∷ binaryOps) op token.Or
 unfoldable pub signOf : ℕ → ℕ
 signOf op = cond (eqb op 1) token.Not (cond (eqb op 2) token.Minus token.Plus)
 
--- the rule of an operator, and that of its left operand: the same, as "all group left", but for comparisons, whose operands are S
+-- the rule of an operator, and that of its left operand: the same, as "All group left", but for comparisons, whose operands are S
 unfoldable pub ruleOf : ℕ → ℕ
 ruleOf op = cond (ltb op 3) 4 (cond (ltb op 7) 5 (cond (ltb op 13) 3 (cond (ltb op 14) 2 1)))
 

@@ -1,12 +1,12 @@
--- What a writer from the back has put of an expression.
+-- What a writer from the back has put of an expression. Contracts of inner functions alone cite this; what the writer promises stands in `writer`.
 -- Assumes nothing.
 use Prim.Native.Nat.{ℕ, _≤_, _<_}
 use mathlib.Core.Path.{_≡_}
 use mathlib.Core.Bool.{true, false}
 use mathlib.Core.List.{List, _++_}
 use Rattle.unparse.specs.Trees.{Item, Expr, Sort, a, Tree}
-use Rattle.standard.proofs.Bare.{headB}
-use Rattle.standard.proofs.Plant.{plant}
+use Rattle.standard.specs.Bare.{headB}
+use Rattle.standard.specs.Plant.{plant}
 use Rattle.writing.specs.Wrote.{Wrote}
 use Rattle.writer_expr.specs.Levels.{textAt, textOf}
 use Rattle.writer_expr.specs.Laid.{Inline, Stands}

@@ -11,8 +11,8 @@ use Rattle.unparse.specs.Trees.{other, Tree}
 use Rattle.unparse.specs.Trees as tree
 use Rattle.unparse.specs.Levels.{X}
 use Rattle.standard.specs.Text.{text, line, opening}
-use Rattle.standard.proofs.Bare.{sizeB, headB}
-use Rattle.standard.proofs.Plant.{plant}
+use Rattle.standard.specs.Bare.{sizeB, headB}
+use Rattle.standard.specs.Plant.{plant}
 use Rattle.writing.proofs.Writes.{nothing, then, same}
 use Rattle.writer_expr.specs.Laid.{Stands, kindAt, wordAt}
 use Rattle.writer_expr.specs.Put.{Put}

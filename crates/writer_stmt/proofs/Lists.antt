@@ -9,8 +9,8 @@ use Rattle.unparse.specs.Trees.{Item, a, some, list, Tree}
 use Rattle.unparse.specs.Trees as tree
 use Rattle.unparse.specs.Levels.{X}
 use Rattle.standard.specs.Text.{text}
-use Rattle.standard.proofs.Bare.{sizeB, headB}
-use Rattle.standard.proofs.Plant.{plant}
+use Rattle.standard.specs.Bare.{sizeB, headB}
+use Rattle.standard.specs.Plant.{plant}
 use Rattle.writing.specs.Wrote.{Wrote}
 use Rattle.writing.proofs.Writes.{nothing, then, same}
 use Rattle.writer_expr.specs.Laid.{Laid, Stands}

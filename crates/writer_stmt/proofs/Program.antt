@@ -9,8 +9,8 @@ use Rattle.unparse.specs.Trees.{Stmt, list, script, Tree}
 use Rattle.unparse.specs.Trees as tree
 use Rattle.unparse.specs.Levels.{X}
 use Rattle.standard.specs.Text.{text, standardText}
-use Rattle.standard.proofs.Bare.{sizeB, headB, fieldsB}
-use Rattle.standard.proofs.Plant.{plant}
+use Rattle.standard.specs.Bare.{sizeB, headB, fieldsB}
+use Rattle.standard.specs.Plant.{plant}
 use Rattle.writer_expr.specs.Laid.{Laid, Stands, wordAt}
 use Rattle.writer_expr.proofs.Shapes.{rooted, inner}
 use Rattle.writer_stmt.specs.Lines.{stmt, SomeLines}

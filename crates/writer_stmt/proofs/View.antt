@@ -7,8 +7,8 @@ use Rattle.ast.specs.Kind as kind
 use Rattle.unparse.specs.Trees.{Item, Stmt, Elif, a, list, other, Tree}
 use Rattle.unparse.specs.Levels.{X}
 use Rattle.standard.specs.Text.{text, line, opening}
-use Rattle.standard.proofs.Bare.{headB}
-use Rattle.standard.proofs.Plant.{plant}
+use Rattle.standard.specs.Bare.{headB}
+use Rattle.standard.specs.Plant.{plant}
 use Rattle.writer_expr.specs.Laid.{Stands, kindAt, wordAt}
 use Rattle.writer_stmt.specs.Words.{formOf, Says}
 use Rattle.writer_stmt.specs.Lines.{Line, blockWord}

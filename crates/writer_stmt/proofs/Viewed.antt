@@ -12,8 +12,8 @@ use Rattle.unparse.specs.Trees.{Item, Name, a, Sort, Alone, Word, Tree}
 use Rattle.unparse.specs.Trees as tree
 use Rattle.unparse.specs.Levels.{X, T}
 use Rattle.standard.specs.Text.{text}
-use Rattle.standard.proofs.Bare.{sizeB, headB, fieldsB}
-use Rattle.standard.proofs.Plant.{plant, spelling}
+use Rattle.standard.specs.Bare.{sizeB, headB, fieldsB}
+use Rattle.standard.specs.Plant.{plant, spelling}
 use Rattle.writer_expr.specs.Levels.{textWhole}
 use Rattle.writer_expr.specs.Laid.{Laid, Stands, kindAt, wordAt}
 use Rattle.writer_expr.proofs.Depth.{any-depth}

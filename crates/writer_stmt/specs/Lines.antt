@@ -1,4 +1,4 @@
--- Lines of statements: a statement, an Elif, a method or an Else, and lists of them.
+-- Lines of statements: a statement, an Elif, a method or an Else, and lists of them. Contracts of inner functions alone cite this; what the writer promises stands in `writer`.
 -- Assumes nothing.
 use Prim.Native.Nat.{ℕ, _<_}
 use mathlib.Core.Path.{_≡_}
@@ -9,8 +9,8 @@ use Rattle.ast.specs.Kind as kind
 use Rattle.unparse.specs.Trees.{Item, Stmt, Elif, Def, Sort, a, list, other, script, Tree}
 use Rattle.unparse.specs.Levels.{X}
 use Rattle.standard.specs.Text.{text, standardText}
-use Rattle.standard.proofs.Bare.{headB}
-use Rattle.standard.proofs.Plant.{plant}
+use Rattle.standard.specs.Bare.{headB}
+use Rattle.standard.specs.Plant.{plant}
 use Rattle.writer_expr.specs.Laid.{Stands}
 use Rattle.writer_expr.specs.Put.{Put}
 use Rattle.writer_expr.specs.declared.Spot.{Spot}

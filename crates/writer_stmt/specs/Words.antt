@@ -1,4 +1,5 @@
 -- What the line of a statement says, by the kind of its node: all but its blanks at the start, and the colon and line feed at its end.
+-- Contracts of inner functions alone cite this; what the writer promises stands in `writer`.
 -- Assumes nothing.
 use Prim.Native.Nat.{ℕ, _≤_}
 use mathlib.Core.Path.{_≡_}
@@ -12,8 +13,8 @@ use Rattle.rendered.specs.Spelled.{spelledFixed}
 use Rattle.ast.specs.Kind as kind
 use Rattle.unparse.specs.Trees.{Expr, Name, a, list, Tree}
 use Rattle.standard.specs.Text.{after, operator, within}
-use Rattle.standard.proofs.Bare.{headB}
-use Rattle.standard.proofs.Plant.{plant}
+use Rattle.standard.specs.Bare.{headB}
+use Rattle.standard.specs.Plant.{plant}
 use Rattle.writer_expr.specs.Levels.{textOf, textWhole}
 use Rattle.writer_expr.specs.Laid.{Stands, kindAt, wordAt}
 use Rattle.writer_expr.specs.Put.{Put}

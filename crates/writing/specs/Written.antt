@@ -1,4 +1,5 @@
--- What a lent slice holds once a text was written into it.
+-- What a lent slice holds once a text was written into it. The writer's promise cites `room`; `Gives` is of an inner function, and says of the slice what
+-- `result` of the writer says.
 -- Assumes nothing.
 use Prim.Native.Nat.{ℕ, _-_, _≤_, _<_, min}
 use mathlib.Core.Path.{_≡_}

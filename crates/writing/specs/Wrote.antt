@@ -1,4 +1,4 @@
--- What a writer from the back does to a lent slice.
+-- What a writer from the back does to a lent slice. Contracts of inner functions alone cite this; what the writer promises stands in `writer`.
 -- Assumes nothing.
 use Prim.Native.Nat.{ℕ, _-_, _<_}
 use mathlib.Core.Path.{_≡_}

@@ -5,8 +5,8 @@ use Rattle.writer_expr.proofs.Lists.{LeftOf, some-member, member-ends, 
 use Rattle.writer_expr.proofs.Shapes.{positive}
 use Rattle.writer_expr.specs.Laid.{Inline, Stands}
 use Rattle.writer_expr.specs.Levels.{textOf}
-use Rattle.standard.proofs.Plant.{plant}
-use Rattle.standard.proofs.Bare.{headB}
+use Rattle.standard.specs.Plant.{plant}
+use Rattle.standard.specs.Bare.{headB}
 use Rattle.unparse.specs.Trees.{Item, some, Tree}
 use lib.ListN.{length}
 use Prim.Native.Nat.{ℕ, _+_, _≤_}

@@ -5,8 +5,8 @@ use Prim.Native.Nat.{ℕ, _+_, _≤_}
 use lib.ListN.{length}
 use Rattle.unparse.specs.Levels.{X}
 use Rattle.unparse.specs.Trees.{Item, a, list, Tree}
-use Rattle.standard.proofs.Bare.{headB}
-use Rattle.standard.proofs.Plant.{plant}
+use Rattle.standard.specs.Bare.{headB}
+use Rattle.standard.specs.Plant.{plant}
 use Rattle.standard.specs.Text as standard
 use Rattle.writer_expr.specs.Laid.{Stands}
 use Rattle.writer_stmt.specs.Lines.{Line}

@@ -1,4 +1,4 @@
--- Trees with no places from erased trees.
+-- Trees with no places from erased trees. For contracts of the writer's inner functions and for proofs, as Bare.antt.
 -- Assumes nothing.
 use Prim.Native.Nat.{ℕ}
 use mathlib.Core.List.{List, [], _∷_}
@@ -6,7 +6,7 @@ use lib.ListN.{getD, drop}
 use Rattle.ast.specs.Kind as kind
 use Rattle.unparse.specs.Trees.{Sign, Op, Comparison, Bracket, Void, Word, Literal, Load, aloneKind}
 use Rattle.unparse.specs.Trees as to
-use Rattle.standard.proofs.Bare.{Bare, b-node, b-end, b-nil, b-word, b-child, b-list, b-more, b-one, b-full, b-first, b-link}
+use Rattle.standard.specs.Bare.{Bare, b-node, b-end, b-nil, b-word, b-child, b-list, b-more, b-one, b-full, b-first, b-link}
 
 -- the last fields of a row, which hold nothing
 abbrev pub free₁ : Bare

@@ -1,4 +1,5 @@
--- Trees with no places, of any kinds: between trees with places and erased trees.
+-- Trees with no places, of any kinds: between trees with places and erased trees. For contracts of the writer's inner functions (`writer_expr`, `writer_stmt`) and for
+-- proofs; no promise of `writer` rests on it.
 -- Assumes nothing.
 use Prim.Native.Nat.{ℕ, _+_, _-_}
 use mathlib.Core.Bool.{Bool, false, cond}
