@@ -36,6 +36,8 @@ pub record Back (source bytes : List ℕ) (ns : List Node) (s : List ℕ) : Type
   pub toks′ : List Token
   pub bytes′ : List ℕ
   pub work′ : Work
+  pub scans : tokenList s ≡ scanned toks′ bytes′
+  pub descends : descent s toks′ ≡ Accepted work′
   pub accepts : (tokens text tree : ℕ) → length s ≤ 65536 → tokenArea (length s) ≤ tokens → length s ≤ text → treeArea (length s) ≤ tree →
       outcome s tokens text tree ≡ accepted (length s) toks′ bytes′ work′
   pub alike : Alike source bytes ns s bytes′ (work′ .nodes)

@@ -1,1 +1,4 @@
 pub mod Back
+pub mod Answer
+pub mod Writes
+pub mod Steps
