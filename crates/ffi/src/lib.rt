@@ -1,4 +1,4 @@
-// The reader and its check of UTF-8 for C and Rust to call. A slice is a pointer and then a length there. Nothing asks such a caller what a contract
+// The reader, its check of UTF-8 and the writer for C and Rust to call. A slice is a pointer and then a length there. Nothing asks such a caller what a contract
 // requires, so the exported functions require nothing: they test.
 ghost use mathlib.Core.Path.{_≡_};
 ghost use mathlib.Core.List.{_++_};
@@ -9,6 +9,7 @@ ghost use Rattle.ffi.specs.Called.{words, Called, Small};
 use reader::Answer;
 
 pub mod check; // check.rt: whether a text is UTF-8, and in how many rounds that was found
+pub mod written; // written.rt: the standard text of a source
 
 // The words of an answer: number, place, T, N, text bytes, openings.
 pub const ANSWER: usize = 6;
