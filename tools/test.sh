@@ -5,7 +5,7 @@
 # folder UNICODE_DATA).
 #
 #     tools/test.sh        in about a minute
-#     tools/test.sh all    makes the cases of reader_cases again too, which takes as long again
+#     tools/test.sh all    makes the cases of reader_cases and writer_cases again too, which takes two minutes more
 set -u
 cd "$(dirname "$0")/.." || exit 2
 export PYTHONDONTWRITEBYTECODE=1
@@ -138,7 +138,7 @@ same_cases() { # CRATE
         if [ -e "$work/$1/$part" ] || [ -e "crates/$1/$part" ]; then diff -rq "$work/$1/$part" "crates/$1/$part" || return 1; fi
     done
 }
-for crate in leaf_cases scan_cases expr_cases python_cases ${1:+reader_cases}; do
+for crate in leaf_cases scan_cases expr_cases python_cases ${1:+reader_cases writer_cases}; do
     yes "the cases of $crate are made" make_cases "$crate"
     yes "the cases of $crate" same_cases "$crate"
 done

@@ -8,12 +8,11 @@
 // bytes in hexadecimal. Of a source over 1,023 bytes each slice is shown by its length and two sums. docs/CASES.md says how the cases were made.
 mod answers;
 mod slices;
-mod sources;
 
 use cases::lines::line_end;
 use cases::print;
+use cases::sources::expand;
 use slices::replay;
-use sources::expand;
 
 fn print_case(line: &[u8]) {
     print(line);

@@ -2,6 +2,7 @@
 use crate::answers::print_answer;
 use crate::answers::print_slices;
 use crate::answers::print_sums;
+use cases::lent::lent;
 ghost use Prim.Native.Nat.{_≤_};
 ghost use lib.ListN.{length};
 
@@ -12,26 +13,6 @@ const GUARD_BYTE: u8 = 255;
 
 // The longest source that is shown word by word.
 const SMALL: usize = 1023;
-
-// A slice's length by its mark, at most what there is room for.
-fn lent(area: usize, mark: u8, room: usize) -> usize
-    requires { ⌜ area ≤ 2000000 ⌝ }
-    ensures { λ r. ⌜ r ≤ room ⌝ }
-{
-    let wanted = match mark {
-        b'-' => short(area),
-        b'0'..=b'9' => area + (mark - b'0') as usize,
-        _ => 0,
-    };
-    if room < wanted { room } else { wanted }
-}
-
-// One less, but of nothing.
-fn short(area: usize) -> usize
-    ensures { λ r. ⌜ r ≤ area ⌝ }
-{
-    if area == 0 { 0 } else { area - 1 }
-}
 
 // Lends as much of each slice as the marks say, and prints the answer and what was lent.
 fn replay_in(src: &[u8], tokens: &mut [u32], text: &mut [u8], tree: &mut [u32], a: u8, b: u8, c: u8)

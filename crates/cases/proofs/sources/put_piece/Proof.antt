@@ -1,11 +1,11 @@
--- `reader_cases::sources::put_piece` meets its contract: the digits end where the star stands.
+-- `cases::sources::put_piece` meets its contract: the digits end where the star stands.
 -- Assumes nothing.
 use mathlib.Core.Path.{sym}
 use native.Mathlib.Omega.{arith}
 use lib.Seq.{length-take-le}
 use borrow.Author.Needs.{needs}
-use Rattle.reader_cases.proofs.sources.put_piece.Statement.{statement}
-use Rattle.reader_cases.proofs.sources.put_piece.Tie as tie
+use Rattle.cases.proofs.sources.put_piece.Statement.{statement}
+use Rattle.cases.proofs.sources.put_piece.Tie as tie
 
 buffer-requires : tie.Need-buffer-requires
 buffer-requires c κs = search needs

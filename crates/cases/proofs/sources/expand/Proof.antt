@@ -1,12 +1,12 @@
--- `reader_cases::sources::expand` meets its contract: each turn passes a piece, and what is written ends within out.
+-- `cases::sources::expand` meets its contract: each turn passes a piece, and what is written ends within out.
 -- Assumes nothing.
 use Prim.Native.Nat.{_≤_, _+_, _-_}
 use lib.ListN.{length}
 use lib.Seq.{length-take-le}
 use mathlib.Core.Path.{_≡_, sym}
 use borrow.Author.Needs.{needs}
-use Rattle.reader_cases.proofs.sources.expand.Statement.{statement}
-use Rattle.reader_cases.proofs.sources.expand.Tie as tie
+use Rattle.cases.proofs.sources.expand.Statement.{statement}
+use Rattle.cases.proofs.sources.expand.Tie as tie
 
 abbrev Inv-loop : tie.InvT-loop
 Inv-loop spelt out₀ n₀ at₀ out n at = (n ≤ length out) × (length out ≡ length out₀) × (at ≤ length spelt + 1)

@@ -1,12 +1,12 @@
--- `reader_cases::sources::put` meets its contract: what is written ends within out.
+-- `cases::sources::put` meets its contract: what is written ends within out.
 -- Assumes nothing.
 use Prim.Native.Nat.{ℕ, _≤_, _+_, _-_}
 use native.Mathlib.Omega.{arith}
 use lib.ListN.{length, length-set}
 use mathlib.Core.Path.{_≡_, sym, subst, _∙_}
 use borrow.Author.Needs.{needs}
-use Rattle.reader_cases.proofs.sources.put.Statement.{statement}
-use Rattle.reader_cases.proofs.sources.put.Tie as tie
+use Rattle.cases.proofs.sources.put.Statement.{statement}
+use Rattle.cases.proofs.sources.put.Tie as tie
 
 abbrev Inv-loop : tie.InvT-loop
 Inv-loop s out₀ at n₀ i₀ out n i = (n ≤ length out) × (length out ≡ length out₀)

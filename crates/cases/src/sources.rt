@@ -1,5 +1,5 @@
 // A source as the files spell it: pieces joined by `+`, each in hexadecimal and, where it stands more than once, with `*` and how often.
-use cases::hex::unhex;
+use crate::hex::unhex;
 ghost use Prim.Native.Nat.{_≤_};
 ghost use lib.ListN.{length};
 ghost use Rattle.io.specs.Counts.{Counts};
@@ -14,7 +14,7 @@ fn digit(b: u8) -> usize
 }
 
 // The number that decimal digits spell, of which it has enough once it is over 99,999.
-fn count_of(digits: &[u8]) -> usize {
+pub fn count_of(digits: &[u8]) -> usize {
     let mut x: usize = 0;
     let mut i: usize = 0;
     while i < digits.len() {
@@ -28,7 +28,7 @@ fn count_of(digits: &[u8]) -> usize {
 }
 
 // The first place of the byte b from `at` on, or the end.
-fn find(s: &[u8], at: usize, b: u8) -> usize
+pub fn find(s: &[u8], at: usize, b: u8) -> usize
     requires { ⌜ at ≤ length (now s) ⌝ }
     ensures { λ r. ⌜ (at ≤ r) × (r ≤ length (now (s .entry))) ⌝ }
 {

@@ -1,10 +1,10 @@
--- `reader_cases::sources::find` meets its contract.
+-- `cases::sources::find` meets its contract.
 -- Assumes nothing.
 use Prim.Native.Nat.{_≤_, _-_}
 use lib.ListN.{length}
 use borrow.Author.Needs.{needs}
-use Rattle.reader_cases.proofs.sources.find.Statement.{statement}
-use Rattle.reader_cases.proofs.sources.find.Tie as tie
+use Rattle.cases.proofs.sources.find.Statement.{statement}
+use Rattle.cases.proofs.sources.find.Tie as tie
 
 abbrev Inv-loop : tie.InvT-loop
 Inv-loop s at b i₀ i = (at ≤ i) × (i ≤ length s)

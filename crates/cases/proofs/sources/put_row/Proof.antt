@@ -1,11 +1,11 @@
--- `reader_cases::sources::put_row` meets its contract: what is written ends within out.
+-- `cases::sources::put_row` meets its contract: what is written ends within out.
 -- Assumes nothing.
 use Prim.Native.Nat.{_≤_, _-_}
 use lib.ListN.{length}
 use mathlib.Core.Path.{_≡_}
 use borrow.Author.Needs.{needs}
-use Rattle.reader_cases.proofs.sources.put_row.Statement.{statement}
-use Rattle.reader_cases.proofs.sources.put_row.Tie as tie
+use Rattle.cases.proofs.sources.put_row.Statement.{statement}
+use Rattle.cases.proofs.sources.put_row.Tie as tie
 
 abbrev Inv-loop : tie.InvT-loop
 Inv-loop s times out₀ at n₀ k₀ out n k = (n ≤ length out) × (length out ≡ length out₀)

@@ -1,10 +1,10 @@
--- `reader_cases::sources::count_of` is safe and ends.
+-- `cases::sources::count_of` is safe and ends.
 -- Assumes nothing.
 use Prim.Native.Nat.{_-_}
 use lib.ListN.{length}
 use borrow.Author.Needs.{needs}
-use Rattle.reader_cases.proofs.sources.count_of.Statement.{statement}
-use Rattle.reader_cases.proofs.sources.count_of.Tie as tie
+use Rattle.cases.proofs.sources.count_of.Statement.{statement}
+use Rattle.cases.proofs.sources.count_of.Tie as tie
 
 abbrev Inv-loop : tie.InvT-loop
 Inv-loop digits x₀ i₀ x i = Unit
