@@ -1,5 +1,5 @@
 #!/bin/sh
-# Builds the plain reader as a static library with the calls of the verified one, to be linked in its place: libffi.a.
+# Builds the plain reader and writer as a static library with the calls of the verified one, to be linked in its place: libffi.a.
 #     compare/plain.sh [FROM TO]    FROM has src/ and wrong/; without words it is compare/, and TO is target/plain
 set -eu
 cd "$(dirname "$0")/.."

@@ -1,6 +1,8 @@
 #!/bin/sh
 # Builds the static library, the program, and the examples in C and Rust; runs all on the scripts of examples/ and on small ones. The examples' listings must
-# be the program's output, and the two walks and the two checks of UTF-8 the same, byte for byte; where the program refuses by 5, the checks do, at its place.
+# be the program's output, and the two walks, the two checks of UTF-8 and the two standard texts the same, byte for byte; where the program refuses by 5, the
+# checks do, at its place. A standard text must have the script's walk, places aside, and itself for its standard text; where there is none, the script is
+# refused, or has a block with no statement.
 #
 #     examples/run.sh
 #
@@ -13,7 +15,7 @@ work=target/examples
 rm -rf "$work"
 mkdir -p "$work"
 cargo build --quiet --offline --release --manifest-path bindings/rust/Cargo.toml --examples --target-dir target/cargo
-for example in walk check; do
+for example in walk check write; do
     "${CC:-cc}" -std=c99 -Wall -Wextra -pedantic -O2 -Iinclude "examples/c/$example.c" target/staticlib/libffi.a -o "$work/${example}_c"
     cp "target/cargo/release/examples/$example" "$work/${example}_rust"
 done
@@ -62,6 +64,28 @@ awk 'BEGIN { for (i = 0; i < 62; i++) printf "a<("; printf "a"; for (i = 0; i < 
 awk 'BEGIN { for (i = 0; i < 1023; i++) printf "a" }' >"$scripts/longest"
 awk 'BEGIN { for (i = 0; i < 1024; i++) printf "a" }' >"$scripts/too_long"
 
+# apart WALK: a walk without its places
+apart() {
+    sed 's/^\( *[0-9]* [A-Za-z]*\) [0-9]* [0-9]*/\1/' "$1"
+}
+
+# written NAME: what is wrong with a script's standard text, or with its refusal
+written() {
+    case "$(cat "$work/$1.status_c") $(head -c 3 "$work/$1.walk_c")" in
+    "status 0 no ") echo "$1 is refused, and written" ;;
+    "status 0 "*)
+        "$work/walk_c" <"$work/$1.write_c" >"$work/$1.walk_back"
+        apart "$work/$1.walk_c" >"$work/$1.apart"
+        apart "$work/$1.walk_back" | cmp - "$work/$1.apart" || echo "$1: its text has another walk"
+        "$work/write_c" <"$work/$1.write_c" | cmp - "$work/$1.write_c" || echo "$1: its text has another text"
+        ;;
+    "no 17 0 status 1 no "*) echo "$1 is refused, and its blocks are looked at" ;;
+    "no 17 0 status 1 "*) ;;
+    "$(cat "$work/$1.walk_c") status 1 no ") ;;
+    *) echo "$1: $(cat "$work/$1.status_c")" ;;
+    esac
+}
+
 count=0
 for script in "$scripts"/*; do
     name=$(basename "$script")
@@ -70,10 +94,17 @@ for script in "$scripts"/*; do
         "$work/walk_$language" --list "$script" >"$work/$name.list_$language"
         "$work/walk_$language" <"$script" >"$work/$name.walk_$language"
         "$work/check_$language" <"$script" >"$work/$name.check_$language"
+        status=0
+        "$work/write_$language" <"$script" >"$work/$name.write_$language" 2>"$work/$name.refusal" || status=$?
+        echo $(cat "$work/$name.refusal") status $status >"$work/$name.status_$language"
         cmp "$work/$name.program" "$work/$name.list_$language"
     done
     cmp "$work/$name.walk_c" "$work/$name.walk_rust"
     cmp "$work/$name.check_c" "$work/$name.check_rust"
+    cmp "$work/$name.write_c" "$work/$name.write_rust"
+    cmp "$work/$name.status_c" "$work/$name.status_rust"
+    said=$(written "$name")
+    [ -z "$said" ] || { echo "$said" >&2 && exit 1; }
     read -r number place rounds <"$work/$name.check_c"
     case "$number $(cat "$work/$name.program")" in
     "5 no 5 $place" | "0 "[!n]* | "0 no "[!5]*) ;;
@@ -88,6 +119,13 @@ for line in 'spelling:0 Float 0 6 3fb999999999999a 0\.10' 'spelled_target:0 Floa
     'two_commas:no 14 2' 'signed:no 14 1' 'parentheses:no 15 2' 'cut:no 15 3' 'cut_class:no 15 9' 'missing:no 16 3' 'missing_in_block:no 16 11'; do
     grep -qx " *${line#*:}" "$work/${line%%:*}.walk_c" || { echo "${line%%:*}: no line ${line#*:}" >&2 && exit 1; }
 done
+# standard texts, a bar for each line feed: a body of its own lines, tuples bare, a Float's spelling, a string's quotes
+for line in 'branches:if a:|  b|elif c:|  d|else:|  e|' 'commas:a,|(a,),|[a], f(a)|' 'comma_assigned:a, = b,|' 'spelled_target:0.10 = 2.5|' 'empty:' 'tuple:())|' \
+    'values:x = {"a": 1.5, "b\n": t{1, 2}, 3: lambda a, b: - a * b}|y.z(1)[0], None|' 'spaces_only:'; do
+    text=$(tr '\n' '|' <"$work/${line%%:*}.write_c")
+    [ "$text" = "${line#*:}" ] || { echo "${line%%:*} is written $text" >&2 && exit 1; }
+done
+grep -qx 'no 17 0 status 1' "$work/spaces_only.status_c" || { echo "spaces_only: $(cat "$work/spaces_only.status_c")" >&2 && exit 1; }
 # with a header of another version than the library's the walk prints no tree
 mkdir "$work/older"
 sed 's/^#define TARBUCKET_VERSION .*/#define TARBUCKET_VERSION 1u/' include/tarbucket.h >"$work/older/tarbucket.h"
@@ -99,5 +137,5 @@ case "$status $(cat "$work/older/walk")" in
 *) echo "a header of version 1: status $status, $(cat "$work/older/walk")" >&2 && exit 1 ;;
 esac
 head -n 12 "$work/kiosk.pyh.walk_c"
-cat "$work/spelling.walk_c"
+cat "$work/spelling.walk_c" "$work/values.write_c"
 echo "examples: $count scripts, the same output from the program, C and Rust"

@@ -1,7 +1,7 @@
-/* Tarbucket: a verified reader of kiosk scripts, for C and C++.
+/* Tarbucket: a verified reader and writer of kiosk scripts, for C and C++.
  *
- * One function reads a script, and another tells whether a text is UTF-8. They have no state, allocate nothing, and use only the memory that is lent to
- * them; they end on every input of bytes.
+ * One function reads a script, one writes it back in its standard text, and one tells whether a text is UTF-8. They have no state, allocate nothing, and use
+ * only the memory that is lent to them; they end on every input of bytes.
  *
  *     rt staticlib ffi                          (writes target/staticlib/libffi.a, for x86-64 Linux)
  *     cc -Iinclude walk.c target/staticlib/libffi.a -o walk
@@ -21,13 +21,15 @@ extern "C" {
 /* The longest source that is read, in bytes. */
 #define TARBUCKET_LONGEST 65536u
 
-/* A call needs at most 64 KiB of stack, the caller's own frames and signal handlers aside. Measured by stack/run.sh, not proved. */
+/* A call needs at most 64 KiB of stack, and one that writes a text 128 KiB, the caller's own frames and signal handlers aside. Measured by stack/run.sh, not
+ * proved. */
 #define TARBUCKET_STACK_BYTES 65536u
+#define TARBUCKET_WRITE_STACK_BYTES 131072u
 
 /* No node, where a field holds a node number. */
 #define TARBUCKET_NONE 4294967295u
 
-/* Returned where `answer` has too few words: fewer than six, or than two where UTF-8 alone is checked. */
+/* Returned where `answer` has too few words: fewer than six, than seven where a text is written, or than two where UTF-8 alone is checked. */
 #define TARBUCKET_NO_ANSWER 4294967295u
 
 /* The areas of a source of n bytes. A slice may be longer: the words behind its area are never touched. */
@@ -37,17 +39,17 @@ extern "C" {
 
 /* The words of an answer. */
 enum {
-    TARBUCKET_ANSWER_NUMBER = 0,   /* 0: accepted; 1 to 16, but never 12: the refusal, see below */
-    TARBUCKET_ANSWER_PLACE = 1,    /* the byte where it is refused; 0 where it is accepted */
+    TARBUCKET_ANSWER_NUMBER = 0,   /* 0: accepted; 1 to 16, but never 12: the refusal, see below; 17 and 18: the writer's */
+    TARBUCKET_ANSWER_PLACE = 1,    /* the byte where it is refused; 0 where it is accepted, and with 17 and 18 */
     TARBUCKET_ANSWER_TOKENS = 2,   /* T, the tokens without Eof; 0 in refusals 1 to 11 */
-    TARBUCKET_ANSWER_NODES = 3,    /* N, the nodes of the tree; 0 in a refusal */
-    TARBUCKET_ANSWER_TEXT = 4,     /* the bytes of decoded strings; 0 in a refusal */
+    TARBUCKET_ANSWER_NODES = 3,    /* N, the nodes of the tree; 0 in refusals 1 to 16 */
+    TARBUCKET_ANSWER_TEXT = 4,     /* the bytes of decoded strings; 0 in refusals 1 to 16 */
     TARBUCKET_ANSWER_OPENINGS = 5, /* the rules opened; 0 in refusals 1 to 11 */
     TARBUCKET_ANSWER_WORDS = 6
 };
 
 /* The numbers. The first question that is answered by no decides; 14 to 16 are one question, does each token fit the grammar, and the token
- * tells, with what could stand in its place, which. */
+ * tells, with what could stand in its place, which. 17 and then 18 are asked of an accepted script, where it is written. */
 enum {
     TARBUCKET_ACCEPTED = 0,
     TARBUCKET_TOO_LONG = 1,         /* more than 65,536 bytes; place 0 */
@@ -65,7 +67,9 @@ enum {
     TARBUCKET_TOO_DEEP = 13,        /* more than 64 expressions and blocks open at once, at the token */
     TARBUCKET_MISFIT = 14,          /* a token that does not fit, at its start; those of 15 and 16 aside */
     TARBUCKET_CUT = 15,             /* the script ends too early: Eof does not fit, at n */
-    TARBUCKET_MISSING = 16          /* an expression or operand is missing at the end of a line or block, at the start of its Newline or Dedent */
+    TARBUCKET_MISSING = 16,         /* an expression or operand is missing at the end of a line or block, at the start of its Newline or Dedent */
+    TARBUCKET_EMPTY_BLOCK = 17,     /* some block has no statement, so there is no text; place 0 */
+    TARBUCKET_NO_ROOM = 18          /* the text is longer than its slice or than 65,536 bytes; place 0 */
 };
 
 /* A token has three words in `tokens`: code, start, end (bytes of the source). Token t stands at word 3 t; token T is Eof. */
@@ -252,6 +256,32 @@ enum {
 uint32_t tarbucket_parse_source(const uint8_t *src, size_t src_len, uint32_t *tokens, size_t tokens_len,
                                 uint8_t *text, size_t text_len, uint32_t *tree, size_t tree_len,
                                 uint32_t *answer, size_t answer_len);
+
+/* The answer of tarbucket_write_source has the six words above, and one more. */
+enum {
+    TARBUCKET_ANSWER_LENGTH = 6, /* the bytes of the text that was written; 0 in a refusal */
+    TARBUCKET_WRITE_WORDS = 7
+};
+
+/* Reads a source, as tarbucket_parse_source does, and writes its standard text to the start of `out`. Writes the seven words of the answer and returns the
+ * first, the number.
+ *
+ * Scripts with the same tree, places aside, with names, strings and the spellings of Floats compared by bytes, have the same text. A block is indented by two spaces, a statement has a line, and each line ends with a line
+ * feed. A space stands around a binary operator, around = and behind a unary operator; behind the comma between members, behind the colon of a pair or
+ * lambda; behind if, elif, while, for, in, return, def, class and lambda where no colon follows, and before in. There is no other blank, and no comment.
+ * Parentheses stand only where the tree needs them. A tuple that is a whole statement, a returned value or a side of = is bare; a tuple of one ends with a
+ * comma, the empty one is ()). Floats are as they were spelled; Ints have the fewest digits, with a minus where negative. Strings stand in double quotes, with
+ * backslash, double quote, line feed, tab and carriage return escaped. A chain of comparisons is a chain.
+ * The text, read with room for its areas, is accepted with the same nodes in the same order, places aside, and its own standard text is itself.
+ *
+ * Each length counts the elements behind its pointer. No pointer may be null, also where its length is 0; the slices must not overlap.
+ * Accepted: `out` holds the text, and 0 in all bytes behind it; a slice of TARBUCKET_LONGEST bytes has room for every text that is not too long. Refused by 1 to 16, as
+ * tarbucket_parse_source refuses: `out` is as it was. Refused by 17 or 18: all of `out` is 0, and the counts are those of the accepted tree. `tokens`, `text`
+ * and `tree` are in every case as tarbucket_parse_source leaves them. Words of `answer` behind the seventh are as they were. Where `answer_len` is below
+ * 7, nothing is written anywhere and TARBUCKET_NO_ANSWER is returned. It needs at most TARBUCKET_WRITE_STACK_BYTES of stack. */
+uint32_t tarbucket_write_source(const uint8_t *src, size_t src_len, uint32_t *tokens, size_t tokens_len,
+                                uint8_t *text, size_t text_len, uint32_t *tree, size_t tree_len,
+                                uint8_t *out, size_t out_len, uint32_t *answer, size_t answer_len);
 
 /* The words, of 64 bits, of the answer of tarbucket_utf8_error. */
 enum {

@@ -1,4 +1,4 @@
-//! A verified reader of kiosk scripts.
+//! A verified reader and writer of kiosk scripts.
 //!
 //! ```
 //! use tarbucket::{Error, Reader, Shape};
@@ -20,25 +20,31 @@
 //! ```
 //!
 //! The reader is one function without state, [`parse_source`], over slices that the caller lends. [`Reader`] owns such slices and grows them as a source
-//! asks; [`Tree`] is a checked view of what they hold. [`utf8_error`] is its check of UTF-8 alone.
+//! asks; [`Tree`] is a checked view of what they hold. The writer, [`write_source`] and [`Reader::write`], gives a source's standard text. [`utf8_error`] is the
+//! reader's check of UTF-8 alone.
 
 mod error;
 mod kind;
 mod shape;
 mod tree;
 mod utf8;
+mod write;
 
 pub use error::Error;
 pub use kind::{BinaryOp, Kind, UnaryOp};
 pub use shape::Shape;
 pub use tree::{BadTree, List, Node, Tree, Walk};
 pub use utf8::{utf8_error, Utf8};
+pub use write::{write_source, WriteError, Written};
 
 /// The longest source that is read, in bytes.
 pub const LONGEST: usize = 65536;
 
 /// A call needs at most so many bytes of stack, the caller's own frames and signal handlers aside. Measured by stack/run.sh, not proved.
 pub const STACK: usize = 65536;
+
+/// The same for a call that writes a text.
+pub const WRITE_STACK: usize = 131072;
 
 /// The version of a tree's words, which its header has. Since 2 a Float has the span of its token, see [`Node::spelling`].
 pub const VERSION: u32 = 2;
@@ -71,6 +77,20 @@ extern "C" {
         text_len: usize,
         tree: *mut u32,
         tree_len: usize,
+        answer: *mut u32,
+        answer_len: usize,
+    ) -> u32;
+    fn tarbucket_write_source(
+        src: *const u8,
+        src_len: usize,
+        tokens: *mut u32,
+        tokens_len: usize,
+        text: *mut u8,
+        text_len: usize,
+        tree: *mut u32,
+        tree_len: usize,
+        out: *mut u8,
+        out_len: usize,
         answer: *mut u32,
         answer_len: usize,
     ) -> u32;
@@ -123,6 +143,7 @@ pub struct Reader {
     tokens: Vec<u32>,
     text: Vec<u8>,
     tree: Vec<u32>,
+    out: Vec<u8>,
     // words of tokens that belong to the source read last
     filled: usize,
 }
@@ -153,7 +174,8 @@ impl Reader {
         Ok(Tree::new(src, text, words).unwrap_or_else(|bad| panic!("the static library does not fit these bindings: {bad}")))
     }
 
-    /// Code, start and end of each token of the source that was read last, Eof last. Empty where it was refused.
+    /// Code, start and end of each token of the source that was read last, to write it too, Eof last. Empty where it was refused, but not where the writer
+    /// refuses what was read.
     pub fn tokens(&self) -> impl Iterator<Item = (u32, u32, u32)> + '_ {
         self.tokens[..self.filled].chunks_exact(3).map(|t| (t[0], t[1], t[2]))
     }

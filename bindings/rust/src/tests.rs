@@ -3,6 +3,7 @@ use crate::*;
 mod comma;
 mod refused;
 mod spelling;
+mod written;
 
 fn number_and_place(src: &[u8]) -> (u32, usize) {
     match Reader::new().read(src) {
