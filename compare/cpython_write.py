@@ -1,9 +1,14 @@
-"""Compares the texts that tools/reference/write.py gives with their sources, by CPython's own `ast`.
+"""Compares standard texts with their sources, by CPython's own `ast`.
 
-    python3 compare/cpython_write.py [--count N] [--seed S]
+    python3 -B compare/cpython_write.py [--count N] [--seed S] [--driver FILE]
 
-Each source of python_sources.py is read and written by tools/reference; CPython must read the text as it reads the source, by `ast.dump` with no places. No library is
-wanted. It prints what was compared and the shortest sources that differ; the exit status is 1 where there is one.
+Each source of python_sources.py is read and written by the verified writer, through the static library; CPython must read the text as it reads the source, by `ast.dump`
+with no places. It prints what was compared and the shortest sources that differ; the exit status is 1 where there is one. compare/write.sh builds the driver unless
+another is named.
+
+    python3 -B compare/cpython_write.py --reference [--count N] [--seed S]
+
+asks the same of the texts that tools/reference/write.py gives, and wants no library.
 
 Where 01 departs from the Reference, CPython is told so: "Int: optional sign, digits", and a text has an Int's minus only; "All group left", so `(a and b) and c` is
 `a and b and c`. Some texts leave the subset that is shared, since 02 has no parentheses where 01 needs none: `not` as the operand of a tighter operator, and an Int before a
@@ -12,19 +17,21 @@ dot or bracket. CPython gets these with parentheses there.
 import argparse
 import ast
 import collections
+import itertools
 import platform
 import sys
 import warnings
 
-from cpython import reference
+from cpython import BATCH, reference
 from python_sources import sources
 
 reference()  # from here on modules of tools/reference are found
 from descent import descent  # noqa: E402
-from read import with_deep_stack  # noqa: E402
+from read import LONGEST, with_deep_stack  # noqa: E402
 from scan import scan  # noqa: E402
 from tree import END, P, START, Kind  # noqa: E402
 from write import standard_text  # noqa: E402
+from written import build, by_side  # noqa: E402
 
 NOT, WORDS = 1, (13, 14)  # operators of 01: not; and, or
 # What each run tries first: a source, and a text that has another tree.
@@ -59,7 +66,7 @@ def dumped(source):
         return ast.dump(AsIn01().visit(ast.parse(source)))
 
 
-def written(source):
+def by_reference(source):
     """The text, however long."""
     tokens, strings = scan(source)
     done = descent(tokens)
@@ -89,11 +96,28 @@ def for_python(text):
     return text.decode(), len(chosen)
 
 
-def compare(count, seed):
+def by_library(driver, batch):
+    """The texts; None for 18, where the text must be over 65,536 bytes by tools/reference."""
+    asked = [(source, LONGEST) for source in batch]
+    for source, ((number, _, length), lent) in zip(batch, by_side(driver, "--library-writes", asked)):
+        assert number == 0 or number == 18 and len(by_reference(source)) > LONGEST, (source, number)
+        yield lent[:length] if number == 0 else None
+
+
+def written(made, driver):
+    """Each source and its text, by the library where a driver is given."""
+    for batch in iter(lambda: list(itertools.islice(made, BATCH)), []):
+        encoded = [source.encode() for source in batch]
+        yield from zip(batch, by_library(driver, encoded) if driver else map(by_reference, encoded))
+
+
+def compare(count, seed, driver):
     assert all(dumped(source) != dumped(text) for source, text in WRONG)
     figures, differences = collections.Counter(), []
-    for source in sources(count, seed):
-        text = written(source.encode())
+    for source, text in written(iter(sources(count, seed)), driver):
+        if text is None:
+            figures["refused by 18"] += 1
+            continue
         asked, put = for_python(text)
         try:
             same = dumped(source) == dumped(asked)
@@ -113,8 +137,11 @@ def main():
     parser = argparse.ArgumentParser()
     parser.add_argument("--count", type=int, default=20000)
     parser.add_argument("--seed", default="1")
+    parser.add_argument("--driver")
+    parser.add_argument("--reference", action="store_true")
     arguments = parser.parse_args()
-    return with_deep_stack(lambda: compare(arguments.count, arguments.seed))
+    driver = None if arguments.reference else arguments.driver or build()
+    return with_deep_stack(lambda: compare(arguments.count, arguments.seed, driver))
 
 
 if __name__ == "__main__":

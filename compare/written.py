@@ -1,9 +1,10 @@
-"""Compares the two writers of change 6 of document 02: tools/reference/write.py and the plain writer of compare/src/writer, each made from 02 by a hand of its own.
+"""Compares three writers of change 6 of document 02: tools/reference/write.py and the plain writer of compare/src/writer, each made from 02 by a hand of its own, and the
+verified one through the static library.
 
     python3 -B compare/written.py [--count N] [--seed S] [--driver FILE]
 
-Both are given the same sources, and slices of the same lengths; number, place and length of the answer and every byte of the slice must be the same, and where a text
-is known by hand, it must be that. Each text is then given to both as a source, in a slice as long as it is: both readers must accept it and both writers give it again,
+All are given the same sources, and slices of the same lengths; number, place and length of the answer and every byte of the slice must be the same, and where a text
+is known by hand, it must be that. Each text is then given to all as a source, in a slice as long as it is: the readers must accept it and the writers give it again,
 and its nodes, by tools/reference, must be the source's apart from places. N sources are random, by the generators of tools/reference, and half as many by those of the
 driver; the others are the same in each run, but that of the driver's nests a run takes one in five, which ones by the seed. It prints how many sources each number
 answered, and the shortest that differ; the exit status is 1 where there is one. compare/write.sh builds the driver unless another is named.
@@ -33,7 +34,8 @@ from read import LONGEST, areas, with_deep_stack  # noqa: E402
 from write import read_and_write  # noqa: E402
 from write_laws import placeless  # noqa: E402
 
-DRIVER = os.path.join(ROOT, "target", "plain", "target", "release", "compare")
+# The driver's words for its two writers.
+SIDES = {"--writes": "the plain writer", "--library-writes": "the library"}
 # What the lent slices hold before: DIRT of compare/src/lent.rs.
 DIRT = 0xA5
 # Of the driver's nests each run takes one of so many.
@@ -43,16 +45,27 @@ SHOWN = 300
 Asked = collections.namedtuple("Asked", "sort source room text", defaults=[None])
 
 
-# The two sides: for each source and length of a slice the three numbers of the answer, and the slice.
+# The sides: for each source and length of a slice the three numbers of the answer, and the slice.
 
-def by_driver(driver, asked):
+def build():
+    """The driver, and the library that it links."""
+    said = subprocess.run([os.path.join(HERE, "write.sh"), "--build"], stdout=subprocess.PIPE, check=True, text=True).stdout
+    return os.path.join(ROOT, said.strip())
+
+
+def by_side(driver, side, asked):
     request = b"".join(struct.pack("<2I", room, len(source)) + source for source, room in asked)
-    reply = subprocess.run([driver, "--writes"], input=request, stdout=subprocess.PIPE, check=True).stdout
+    reply = subprocess.run([driver, side], input=request, stdout=subprocess.PIPE, check=True).stdout
     at = 0
     for _, room in asked:
         yield struct.unpack_from("<3I", reply, at), reply[at + 12:at + 12 + room]
         at += 12 + room
     assert at == len(reply)
+
+
+def by_driver(driver, asked):
+    """What each side of the driver made, side by side."""
+    return zip(*(by_side(driver, side, asked) for side in SIDES))
 
 
 def by_reference(source, room):
@@ -168,6 +181,10 @@ def shown(side, text):
     return f"{side[0]} {side[1].rstrip(bytes(1))[:SHOWN]} {text}"
 
 
+def all_shown(ours, theirs):
+    return ", ".join([shown(ours, "by tools/reference"), *(shown(made, f"by {side}") for made, side in zip(theirs, SIDES.values()))])
+
+
 def differences(driver, batch, figures):
     texts = []
     for one, theirs in zip(batch, by_driver(driver, [(one.source, one.room) for one in batch])):
@@ -178,17 +195,17 @@ def differences(driver, batch, figures):
             continue
         (number, _, length), lent = ours
         figures[one.sort].update({"sources": 1, "bytes": len(one.source), number: 1})
-        if ours != theirs:
-            yield one.source, shown(ours, "by tools/reference, ") + shown(theirs, "by the plain writer")
+        if any(made != ours for made in theirs):
+            yield one.source, all_shown(ours, theirs)
         elif one.text is not None and (number, lent[:length]) != ((0, one.text) if one.room >= len(one.text) else (18, b"")):
-            yield one.source, shown(ours, f"by both, {one.text[:SHOWN]} by hand")
+            yield one.source, shown(ours, f"by all, {one.text[:SHOWN]} by hand")
         elif number == 0:
             texts.append((one, lent[:length], nodes))
     for (one, text, nodes), theirs in zip(texts, by_driver(driver, [(text, len(text)) for _, text, _ in texts])):
         ours, again = by_reference(text, len(text))
         figures[one.sort].update({"texts": 1, "bytes of texts": len(text), "other than the source": text != one.source})
-        if not ours == theirs == ((0, 0, len(text)), text):
-            yield one.source, f"written {text[:SHOWN]}, and again " + shown(ours, "by tools/reference, ") + shown(theirs, "by the plain writer")
+        if any(made != ((0, 0, len(text)), text) for made in (ours, *theirs)):
+            yield one.source, f"written {text[:SHOWN]}, and again " + all_shown(ours, theirs)
         elif again != nodes:
             yield one.source, f"written {text[:SHOWN]}, which has other nodes"
 
@@ -202,13 +219,11 @@ def show(figures, seconds):
     print(f"all: {whole['sources']} sources, {whole['bytes']} bytes, {seconds:.0f} seconds")
     print(f"set aside for a character of which tools/reference tells nothing: {whole['set aside']}")
     print("by number:", ", ".join(f"{number}: {whole[number]}" for number in range(19) if whole[number]))
-    print(f"texts read and written again by both: {whole['texts']}, {whole['bytes of texts']} bytes, {whole['other than the source']} other than the source")
+    print(f"texts read and written again by all: {whole['texts']}, {whole['bytes of texts']} bytes, {whole['other than the source']} other than the source")
 
 
 def compare(arguments):
-    driver, begun = arguments.driver, time.time()
-    if driver == DRIVER:
-        subprocess.run([os.path.join(HERE, "write.sh"), "--write", os.devnull], stdout=subprocess.DEVNULL, check=True)
+    driver, begun = arguments.driver or build(), time.time()
     asked = itertools.chain(fixed(), random_ones(driver, arguments.count, arguments.seed))
     batches = iter(lambda: list(itertools.islice(asked, BATCH)), [])
     figures, found = collections.defaultdict(collections.Counter), []
@@ -228,7 +243,7 @@ def main():
     parser = argparse.ArgumentParser()
     parser.add_argument("--count", type=int, default=20000)
     parser.add_argument("--seed", type=int, default=1)
-    parser.add_argument("--driver", default=DRIVER)
+    parser.add_argument("--driver")
     return compare(parser.parse_args())
 
 

@@ -1,16 +1,19 @@
 #!/bin/sh
-# Wrong copies of the plain writer, which its check by itself (compare/write.sh) or its tests must find.
+# Wrong copies of the plain writer. Each must be found twice: by its check by itself (compare/write.sh --alone) in the plain writer's place, and by the right plain
+# writer beside it (compare/write.sh) in the library's place. And wrong calls, which the latter must find.
 set -eu
 cd "$(dirname "$0")/.."
 out=$PWD/target/wrong_writer
 export CARGO_PROFILE_RELEASE_OPT_LEVEL=1 CARGO_PROFILE_RELEASE_DEBUG=0
 compare/plain.sh
+mkdir -p "$out"
+rustc --edition 2021 -O --crate-type rlib --crate-name plain compare/src/lib.rs -o "$out/libplain.rlib"
 
 # edited WHAT FILE EDIT: a copy of compare/ with the file, as seen from compare/src/writer, edited
 edited() {
     rm -rf "$out/compare"
     mkdir -p "$out/compare"
-    cp -r compare/src compare/build.rs compare/Cargo.toml compare/Cargo.lock "$out/compare"
+    cp -r compare/src compare/wrong compare/build.rs compare/Cargo.toml compare/Cargo.lock "$out/compare"
     sed "$3" "compare/src/writer/$2" > "$out/compare/src/writer/$2"
     if cmp -s "compare/src/writer/$2" "$out/compare/src/writer/$2"; then
         echo "$1: the edit changes nothing"
@@ -18,36 +21,34 @@ edited() {
     fi
 }
 
+# found WHAT HOW DRIVER MODE: the driver must show an input
 found() {
-    if "$@" > "$out/log" 2>&1; then
-        echo "$what: NOT FOUND"
+    if "$3" "$4" --count 400000 > "$out/log" 2>&1 || ! grep -q '^input' "$out/log"; then
+        echo "$1: NOT FOUND $2"
         exit 1
     fi
+    printf '%s, %s: %s\n' "$1" "$2" "$(grep '^input' "$out/log" | cut -c 1-120)"
 }
 
-in_copy() {
-    command=$1
-    shift
-    RUSTFLAGS=-Awarnings STATICLIB=$PWD/target/plain cargo "$command" --offline --release --quiet --manifest-path "$out/compare/Cargo.toml" \
-        --target-dir "$out/target" "$@"
+# The edited copy in the library's place, beside the right one.
+beside() {
+    compare/plain.sh "$out/compare" "$out/library"
+    rustc --edition 2021 -C opt-level=1 --crate-name beside --extern plain="$out/libplain.rlib" -L native="$out/library" compare/src/driver/main.rs -o "$out/beside"
+    found "$1" "as the library" "$out/beside" --writers
 }
 
-# wrong WHAT FILE EDIT: found by the check
+# wrong WHAT FILE EDIT: found by itself and beside the right one
 wrong() {
-    what=$1
     edited "$@"
-    in_copy build
-    found "$out/target/release/compare" --written --count 400000
-    printf '%s: %s\n' "$1" "$(grep '^input' "$out/log")"
+    RUSTFLAGS=-Awarnings STATICLIB=$PWD/target/plain cargo build --offline --release --quiet --manifest-path "$out/compare/Cargo.toml" --target-dir "$out/target"
+    found "$1" "by itself" "$out/target/release/compare" --written
+    beside "$1"
 }
 
-# wrong_test WHAT FILE EDIT: found by the tests, where the check needs too many inputs
-wrong_test() {
-    what=$1
-    edited "$@"
-    in_copy test --lib --no-run
-    found in_copy test --lib written
-    printf '%s: %s\n' "$1" "$(grep '^---- ' "$out/log" | head -1)"
+# wrong_call WHAT EDIT: a wrong call around the right writer
+wrong_call() {
+    edited "$1" ../../wrong/library.rs "$2"
+    beside "$1"
 }
 
 wrong "a step of four" statement.rs 's/STEP: u32 = 2/STEP: u32 = 4/'
@@ -95,4 +96,11 @@ wrong "a slice not zeroed" mod.rs 's/    out.fill(0);//'
 wrong "a slice zeroed where the reader refuses" mod.rs 's/    let Answer { number, place, .. } = read/    out.fill(0);&/'
 wrong "18 for a text that just fits" mod.rs 's/made.len() > out.len()/made.len() >= out.len()/'
 wrong "18 with a length" mod.rs 's/number: TOO_LONG, \.\./number: TOO_LONG, length: made.len() as u32, ../'
-wrong_test "texts beyond 65,536 bytes" mod.rs 's/ || made.len() > LONGEST//'
+wrong "texts beyond 65,536 bytes" mod.rs 's/ || made.len() > LONGEST//'
+writes='/fn tarbucket_write_source/,/^}/'
+wrong_call "an answer of six words taken for seven" "${writes}s/answer_len < 7/answer_len < 6/"
+wrong_call "an eighth word written" "${writes}s/answer\[6\] = length;/& *answer.as_mut_ptr().add(7) = 5;/"
+wrong_call "17 without the tree's counts" "${writes}s/answer\[2..6\].copy_from_slice(&counts)/answer[2..6].copy_from_slice(if number == 17 { \&[0; 4] } else { \&counts })/"
+wrong_call "the tree zeroed by 18" "${writes}s/let answer = .*/& if number == 18 { tree.fill(0); }/"
+wrong_call "a byte written behind the text's slice" "${writes}s/let answer = .*/& if number == 0 { *out.as_mut_ptr().add(out_len) = 5; }/"
+wrong_call "the number of the reader returned" "${writes}s/^    number\$/    if number > 16 { 0 } else { number }/"

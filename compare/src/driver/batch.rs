@@ -1,10 +1,9 @@
-//! Many sources in one process, for written.py: those that it sends, to the plain writer, and those that this driver makes, to
-//! it. A source is its length, 4 bytes with the low one first, and its bytes.
+//! Many sources in one process, for written.py and cpython_write.py: those that they send, to a writer, and those that this driver
+//! makes, to them. A source is its length, 4 bytes with the low one first, and its bytes.
 
 use crate::generate::Generator;
 use crate::written::nests;
 use crate::{standard_input, Limits};
-use plain::lent::Lent;
 use plain::writer::Wrote;
 use std::io::{BufWriter, Write};
 use std::process::ExitCode;
@@ -12,7 +11,7 @@ use std::time::Instant;
 
 /// From standard input the length of the slice that is lent and a source, until it ends. To standard output for each: number,
 /// place and length of the answer, and the slice.
-pub fn writes() -> ExitCode {
+pub fn writes(write: impl Fn(&[u8], usize) -> (Wrote, Vec<u8>)) -> ExitCode {
     let input = standard_input();
     let mut rest = &input[..];
     put(|out| {
@@ -20,7 +19,7 @@ pub fn writes() -> ExitCode {
             let [lent, length] = [word(&mut rest), word(&mut rest)];
             let (src, behind) = rest.split_at(length);
             rest = behind;
-            let (Wrote { number, place, length }, slice) = Lent::of(src).write(lent);
+            let (Wrote { number, place, length }, slice) = write(src, lent);
             for word in [number, place, length] {
                 out.write_all(&word.to_le_bytes())?;
             }

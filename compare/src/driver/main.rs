@@ -6,10 +6,12 @@
 //!     compare --print                                 one input, as 01's program prints it, by the plain reader
 //!     compare --written [--seconds N] [--count N] [--seed S]    a run of the plain writer by itself; the same at the first wrong text
 //!     compare --write [FILE ...]                      each file, or one input: number and length of the plain writer's answer, and the text
-//!     compare --writes                                many sources to the plain writer, for written.py, as batch.rs says
+//!     compare --writers [--seconds N] [--count N] [--seed S]    a run of both writers, and of both readers on their texts
+//!     compare --writes | --library-writes             many sources to the plain writer or to the library's, as batch.rs says
 //!     compare --nests | --sources [--count N] [--seed S]    the sources of a run of the plain writer, to written.py
 
 mod batch;
+mod beside;
 mod check;
 mod figures;
 mod generate;
@@ -17,6 +19,7 @@ mod has;
 mod random;
 mod shrink;
 mod sides;
+mod table;
 mod written;
 
 use figures::Figures;
@@ -62,17 +65,19 @@ fn start(words: &[String]) -> ExitCode {
             return ExitCode::SUCCESS;
         }
         Some((word, files)) if word == "--write" => return write(files),
-        Some((word, [])) if word == "--writes" => return batch::writes(),
+        Some((word, [])) if word == "--writes" => return batch::writes(|src, room| Lent::of(src).write(room)),
+        Some((word, [])) if word == "--library-writes" => return batch::writes(beside::written),
         Some((word, [])) if word == "--nests" => return batch::nests(),
         Some((word, rest)) if word == "--sources" => (rest, batch::generated),
         Some((word, rest)) if word == "--written" => (rest, written::run),
+        Some((word, rest)) if word == "--writers" => (rest, beside::run),
         _ => (words, run),
     };
     match limits(rest) {
         Some(limits) => run(&limits),
         None => {
-            eprintln!("usage: compare [--written | --sources] [--seconds N] [--count N] [--seed S]");
-            eprintln!("       compare --stdin | --print | --write [FILE ...] | --writes | --nests");
+            eprintln!("usage: compare [--written | --writers | --sources] [--seconds N] [--count N] [--seed S]");
+            eprintln!("       compare --stdin | --print | --write [FILE ...] | --writes | --library-writes | --nests");
             ExitCode::from(2)
         }
     }

@@ -30,9 +30,10 @@ fn keep_if_differs(differs: &mut Differs, smallest: &mut Case, change: impl FnOn
     kept
 }
 
+/// Of a long source no part under a 512th of it is taken away: each try takes long.
 fn drop_parts(differs: &mut Differs, smallest: &mut Case) {
     let mut size = smallest.src.len();
-    while size > 0 {
+    while size > smallest.src.len() / 512 {
         let mut at = 0;
         while at < smallest.src.len() {
             let end = (at + size).min(smallest.src.len());
@@ -69,11 +70,15 @@ fn simplify_lengths(differs: &mut Differs, smallest: &mut Case) {
     keep_if_differs(differs, smallest, |case| case.answer = 6);
 }
 
+pub fn lengths(case: &Case) -> String {
+    format!("slices: tokens area{:+}, text area{:+}, tree area{:+}, answer {}", case.tokens, case.text, case.tree, case.answer)
+}
+
 /// Prints a case and both sides of it.
 pub fn show(sides: &mut Sides, case: &Case) {
     let found = sides.compare(case);
     println!("input: {} bytes: b\"{}\"", case.src.len(), case.src.escape_ascii());
-    println!("slices: tokens area{:+}, text area{:+}, tree area{:+}, answer {}", case.tokens, case.text, case.tree, case.answer);
+    println!("{}", lengths(case));
     for (name, side) in [("plain", &sides.plain), ("library", &sides.library)] {
         let [number, place, tokens, nodes, text, openings] = side.answer[..6] else { unreachable!() };
         println!("{name}: number {number}, place {place}, T {tokens}, N {nodes}, text {text}, openings {openings}");

@@ -29,7 +29,7 @@ pub const NO_ANSWER: u32 = 4294967295;
 pub const NEVER: u32 = 12;
 
 /// Cells behind each slice that are looked at too.
-const MARGIN: usize = 24;
+pub const MARGIN: usize = 24;
 
 /// The longest source that is put to the readers.
 pub const MOST: usize = plain::LONGEST + 64;
@@ -57,29 +57,44 @@ impl Case {
         [moved(tokens, self.tokens), moved(text, self.text), moved(tree, self.tree)]
     }
 
+    /// How far the readers' cells are looked at: the area or the slice, whichever is longer, and some more.
+    pub fn reach(&self) -> [usize; 3] {
+        let (lengths, (tokens, text, tree)) = (self.lengths(), areas(self.src.len()));
+        [lengths[0].max(tokens) + MARGIN, lengths[1].max(text) + MARGIN, lengths[2].max(tree) + MARGIN]
+    }
+
     /// The length of the check's answer: as many words too long or too short as the reader's.
     pub fn check_words(&self) -> usize {
         (self.answer + WORDS).saturating_sub(6)
     }
 }
 
-/// What a reader writes to.
+/// What a reader and a writer write to.
 pub struct Buffers {
     pub tokens: Vec<u32>,
     pub text: Vec<u8>,
     pub tree: Vec<u32>,
     pub answer: Vec<u32>,
+    /// As long as any text so far.
+    pub out: Vec<u8>,
 }
 
 impl Buffers {
     fn new() -> Buffers {
         let (tokens, text, tree) = areas(MOST);
         let more = 4 * MARGIN;
-        Buffers { tokens: vec![0; tokens + more], text: vec![0; text + more], tree: vec![0; tree + more], answer: vec![0; more] }
+        let out = Vec::new();
+        Buffers {
+            tokens: vec![0; tokens + more],
+            text: vec![0; text + more],
+            tree: vec![0; tree + more],
+            answer: vec![0; more],
+            out,
+        }
     }
 
     /// Fills what one input may reach with dirt.
-    fn soil(&mut self, dirt: u32, reach: [usize; 3]) {
+    pub fn soil(&mut self, dirt: u32, reach: [usize; 3]) {
         let soil = |words: &mut [u32]| {
             let mut word = dirt;
             for cell in words {
@@ -90,9 +105,19 @@ impl Buffers {
         soil(&mut self.tokens[..reach[0]]);
         soil(&mut self.tree[..reach[2]]);
         soil(&mut self.answer);
-        for (index, cell) in self.text[..reach[1]].iter_mut().enumerate() {
-            *cell = dirt.wrapping_add(index as u32 * 7) as u8;
-        }
+        soil_bytes(&mut self.text[..reach[1]], dirt);
+    }
+
+    /// The same of so many bytes for a text.
+    pub fn soil_out(&mut self, dirt: u32, reach: usize) {
+        self.out.resize(self.out.len().max(reach), 0);
+        soil_bytes(&mut self.out[..reach], dirt);
+    }
+}
+
+fn soil_bytes(bytes: &mut [u8], dirt: u32) {
+    for (index, cell) in bytes.iter_mut().enumerate() {
+        *cell = dirt.wrapping_add(index as u32 * 7) as u8;
     }
 }
 
@@ -125,7 +150,7 @@ pub struct Sides {
     pub plain: Buffers,
     pub library: Buffers,
     pub checks: Checks,
-    dirt: u32,
+    pub dirt: u32,
 }
 
 impl Sides {
@@ -142,8 +167,7 @@ impl Sides {
     /// Puts a case to both readers, to the trial and to both checks. Slices hold dirt before, and cells behind them are compared too.
     pub fn compare(&mut self, case: &Case) -> Result<Made, Difference> {
         let lengths = case.lengths();
-        let (tokens, text, tree) = areas(case.src.len());
-        let reach = [lengths[0].max(tokens) + MARGIN, lengths[1].max(text) + MARGIN, lengths[2].max(tree) + MARGIN];
+        let reach = case.reach();
         self.plain.soil(self.dirt, reach);
         self.library.soil(self.dirt, reach);
         let answer = self.read_plain(case, lengths)?;
@@ -194,7 +218,7 @@ impl Sides {
         }
     }
 
-    fn alike(&self, [tokens, text, tree]: [usize; 3]) -> Result<(), Difference> {
+    pub fn alike(&self, [tokens, text, tree]: [usize; 3]) -> Result<(), Difference> {
         let (plain, library) = (&self.plain, &self.library);
         same("answer", &plain.answer, &library.answer)?;
         same("tokens", &plain.tokens[..tokens], &library.tokens[..tokens])?;

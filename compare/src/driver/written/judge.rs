@@ -2,6 +2,7 @@
 
 use super::form;
 use crate::sides::{differ, Case, Difference};
+use crate::table::Found;
 use plain::alike::first_unlike;
 use plain::lent::{Lent, DIRT};
 use plain::scan::scan;
@@ -9,17 +10,6 @@ use plain::token::{Kind, Token};
 use plain::writer::{standard, Wrote, EMPTY_BLOCK, TOO_LONG};
 use plain::LONGEST;
 use std::panic::{catch_unwind, AssertUnwindSafe};
-
-/// What came of a case in which nothing was wrong.
-#[derive(Clone, Copy, Default)]
-pub struct Found {
-    /// Of the answer with enough lent.
-    pub number: u32,
-    /// The text's bytes, with 18 as well.
-    pub bytes: u64,
-    /// Parentheses and commas left out of the text; none where it was too long for that.
-    pub left_out: Option<u64>,
-}
 
 /// What came of a case, or what is wrong; a panic is too.
 pub fn judge(case: &Case) -> Result<Found, Difference> {
@@ -46,7 +36,7 @@ fn judged(case: &Case) -> Result<Found, Difference> {
         Some(_) if empty_block => differ("no 17 where a block has no statement"),
         Some(text) if text.len() > LONGEST => {
             refused(case, TOO_LONG, text.len())?;
-            Ok(Found { number: TOO_LONG, bytes: text.len() as u64, left_out: None })
+            Ok(Found { number: TOO_LONG, bytes: text.len() as u64, more: [0; 2] })
         }
         Some(text) => {
             lengths(case, &text)?;
@@ -111,5 +101,6 @@ fn read_back(first: &Lent, text: &[u8]) -> Result<Found, Difference> {
     let tokens = tokens_of(text)?;
     form::judge(text, &tokens).map_err(|Difference(what)| Difference(format!("b\"{}\": {what}", show())))?;
     let left_out = form::leave_out(second.source(), &tokens)?;
-    Ok(Found { number: 0, bytes: text.len() as u64, left_out })
+    let more = [left_out.unwrap_or(0), u64::from(left_out.is_none())];
+    Ok(Found { number: 0, bytes: text.len() as u64, more })
 }
