@@ -1,11 +1,16 @@
 #!/usr/bin/env python3
 """The most stack that any call of the library can take, by the frames of its functions.
 
-    stack/frames.py [LIBRARY]    prints the frames and the sum; status 0 exactly if it is no more than include/tarbucket.h promises
+    stack/frames.py [LIBRARY]    prints the frames, the writer's sum and that of the others; status 0 exactly if both are no more than include/tarbucket.h
+                                 promises
 
 objdump shows each function of the archive. Its instructions are walked along all jumps, with how deep the stack is before each; what is below the stack
-pointer and used (the red zone) counts too. At most 64 E and Block are open at once, and one more is refused by its first test: so of the calls that are
-open, no more than 65 are of rule_e and rule_block, and the last of these calls nothing. The sum is that of the longest such chain.
+pointer and used (the red zone) counts too. The sum is that of the longest chain of calls. At most 64 E and Block are open at once:
+- in the reader one more is refused by its first test: so of the calls that are open, no more than 65 are of rule_e and rule_block, and the last of these
+  calls nothing;
+- in the writer, of an accepted script, put_expr calls itself where an E is opened, or for a rule further behind: seven calls for each E at most, one for
+  the E, five for what stands right of `or`, `and`, a comparison, + and *, and one for what stands behind signs. put_line calls itself where a Block is
+  opened, and once more for the Elif, Else or Method that has it.
 
 Where the code is such that this can't be told, it stops and says where. It is no proof, for it believes:
 - objdump, and that the names are those of the source;
@@ -21,10 +26,19 @@ from functools import lru_cache
 
 ROOT = os.path.dirname(os.path.dirname(os.path.abspath(__file__)))
 LEVELS, DEEPEST = {"expr::rule_e", "stmt::rule_block"}, 64
-# The exported functions, which must all be there, and how much of their arguments goes by the stack: four of the reader's ten, none of the check's four.
-ENTRIES = {"tarbucket_parse_source": 32, "tarbucket_utf8_error": 0}
+# The writer's: how many calls of it are open for an E, or for a Block. The statements of the whole script are in no Block, and have as many.
+EXPR, LINE = "writer_expr::put_expr", "writer_stmt::put_line"
+SHARES = {EXPR: 7, LINE: 2}
+# Where these are compiled into put_expr, as they are, a call by another function than itself opens an E.
+WITHIN = {f"writer_expr::{name}" for name in ("step", "put_binary", "put_link", "put_unary")}
+# The exported functions, which must all be there, and how much of their arguments goes by the stack: four of the reader's ten, none of the check's four,
+# six of the writer's twelve. By the promise that they have in the header.
+ENTRIES = {
+    "TARBUCKET_WRITE_STACK_BYTES": {"tarbucket_write_source": 48},
+    "TARBUCKET_STACK_BYTES": {"tarbucket_parse_source": 32, "tarbucket_utf8_error": 0},
+}
 # The system's: none of its forms takes as much. Where it is bound at its first call, the linker's resolver takes some KiB more, which are not in it: today
-# they can't matter, since the list that is printed has memset among the calls of the reader's entry alone, far above the deepest place.
+# they can't matter, since the list that is printed has memset among the calls of the entries and of a statement's line, far above the deepest place.
 OUTSIDE = {"memset": 512}
 
 PREFIXES = r"(?:(?:notrack|bnd|repz?|data16|cs)\s+)*"
@@ -181,12 +195,24 @@ class Walk:
         return starts[symbol or section, place].name
 
 
-def longest(walks):
+def openings(name, callee, room, left):
+    """With how much room, and how many calls left in its E or Block, a function of SHARES can be called."""
+    if name in WITHIN:
+        sys.exit(f"{name}: calls {callee}, maybe for a rule further behind")
+    if callee == name and left > 0:
+        yield room, left - 1
+    if callee == LINE != name:
+        yield room, SHARES[LINE] - 1
+    elif room > 0:
+        yield room - 1, SHARES[callee] - 1
+
+
+def longest(walks, entries):
     """From an entry on, with room for so many E and Block: the bytes, its arguments' too, and the functions on the way."""
     open_now = set()
 
     @lru_cache(None)
-    def below(name, room):
+    def below(name, room, left=0):
         if name in OUTSIDE:
             return OUTSIDE[name], (name,)
         if name not in walks:
@@ -196,17 +222,18 @@ def longest(walks):
             if room == 0:
                 return own, (name,)
             room -= 1
-        if (name, room) in open_now:
-            sys.exit(f"{name} comes to itself with neither rule_e nor rule_block between")
-        open_now.add((name, room))
+        if (name, room, left) in open_now:
+            sys.exit(f"{name} comes to itself with no level between")
+        open_now.add((name, room, left))
         ways = [(own, (name,))]
         for depth, callee in walks[name].calls:
-            taken, way = below(callee, room)
-            ways.append((depth + taken, (name,) + way))
-        open_now.remove((name, room))
+            for state in openings(name, callee, room, left) if callee in SHARES else [(room,)]:
+                taken, way = below(callee, *state)
+                ways.append((depth + taken, (name,) + way))
+        open_now.remove((name, room, left))
         return max(ways, key=lambda way: way[0])
 
-    ways = [below(entry, DEEPEST) + (pushed,) for entry, pushed in ENTRIES.items()]
+    ways = [below(entry, DEEPEST) + (pushed,) for entry, pushed in entries.items()]
     return max((taken + pushed, way) for taken, way, pushed in ways)
 
 
@@ -215,12 +242,15 @@ def main():
     walks = {name: Walk(function) for name, function in functions(library).items()}
     for name, walk in walks.items():
         print(f"{walk.deepest:6} {name}: " + ", ".join(sorted({callee for _, callee in walk.calls})))
-    taken, way = longest(walks)
     header = open(f"{ROOT}/include/tarbucket.h", encoding="utf-8").read()
-    promise = int(re.search(r"#define TARBUCKET_STACK_BYTES (\d+)u", header)[1])
-    print("\nthe longest chain: " + ", ".join(way if len(way) < 14 else way[:7] + ("..",) + way[-6:]))
-    print(f"{taken:,} bytes at most, promised are {promise:,}")
-    sys.exit(taken > promise)
+    over = False
+    for promised, entries in ENTRIES.items():
+        taken, way = longest(walks, entries)
+        promise = int(re.search(rf"#define {promised} (\d+)u", header)[1])
+        print("\nthe longest chain: " + ", ".join(way if len(way) < 14 else way[:7] + ("..",) + way[-6:]))
+        print(f"{taken:,} bytes at most, promised are {promise:,}")
+        over = over or taken > promise
+    sys.exit(over)
 
 
 if __name__ == "__main__":

@@ -1,6 +1,6 @@
 #!/bin/sh
 # Builds the static library and the driver, and measures the stack of calls over many sources: status 0 exactly if each answer is right and none takes
-# more than the header and the Rust crate promise. Under a minute where the reader is proved already.
+# more than the header and the Rust crate promise. About a minute where the reader and the writer are proved already.
 set -eu
 cd "$(dirname "$0")/.."
 mkdir -p target/stack

@@ -15,13 +15,16 @@ mod random;
 mod refused;
 mod shapes;
 mod source;
+mod standard;
 mod table;
+mod way;
 
-use call::{run, run_check, Call};
-use painted::{Stack, Start, PAINTS};
+use call::Call;
+use painted::{Stack, PAINTS};
 use source::Source;
 use std::io::Write;
 use std::process::ExitCode;
+use way::{Way, CHECKED, GIVEN_BACK, READ, WRITTEN};
 
 fn main() -> ExitCode {
     let arguments: Vec<String> = std::env::args().skip(1).collect();
@@ -35,32 +38,36 @@ fn main() -> ExitCode {
     ExitCode::SUCCESS
 }
 
+/// Each source in turn, and what is done with it, the same in every run.
+fn each(visit: &mut dyn FnMut(Source, &Way)) {
+    source::each(&mut |source| visit(source, &READ));
+    checked::each(&mut |source| visit(source, &CHECKED));
+    source::each(&mut |source| visit(source, &WRITTEN));
+    standard::each(&mut |source| visit(source, &GIVEN_BACK));
+}
+
 /// A line before each source's calls, so that the last one begun is known; then a line for each paint.
 fn measure() {
     let (stack, mut call) = (Stack::new(), Call::new());
     let mut out = std::io::stdout().lock();
-    let mut one = |source: Source, take: fn(&mut Call, &[u8]), start: Start| {
-        let (number, place) = source.answer;
-        let Source { sort, name, levels, .. } = source;
-        writeln!(out, "{sort}\t{name}\t{}\t{levels}\t{number} {place}", source.text.len()).expect("a line written");
+    each(&mut |source, way| {
+        let (sort, name, levels) = (source.sort, &source.name, source.levels);
+        let due = (way.due)(&source);
+        writeln!(out, "{}\t{sort}\t{name}\t{}\t{levels}\t{due}", way.name, source.text.len()).expect("a line written");
         for paint in PAINTS {
-            take(&mut call, &source.text);
-            let taken = stack.measure(paint, start, &mut call);
-            writeln!(out, "{taken} {} {}", call.answer[0], call.answer[1]).expect("a line written");
+            (way.take)(&mut call, &source.text);
+            let taken = stack.measure(paint, way.start, &mut call);
+            writeln!(out, "{taken} {}", (way.said)(&mut call, &source)).expect("a line written");
         }
-    };
-    source::each(&mut |source| one(source, Call::take, run));
-    checked::each(&mut |source| one(source, Call::take_text, run_check));
+    });
 }
 
 fn print_source(wanted: usize) {
     let mut number = 0;
-    let mut one = |source: Source| {
+    each(&mut |source, _| {
         number += 1;
         if number == wanted {
             std::io::stdout().write_all(&source.text).expect("a source written");
         }
-    };
-    source::each(&mut one);
-    checked::each(&mut one);
+    });
 }

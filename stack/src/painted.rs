@@ -5,7 +5,7 @@ use std::ffi::c_void;
 use std::ptr::null_mut;
 
 /// The bytes of the stack. Of them the system takes a few KiB at the top for itself.
-pub const STACK: usize = 128 * 1024;
+pub const STACK: usize = 256 * 1024;
 
 /// Two, since a byte that is written can be the paint: the deeper figure of the two counts.
 pub const PAINTS: [u8; 2] = [0xa5, 0x5a];

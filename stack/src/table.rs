@@ -3,6 +3,7 @@
 use crate::deep::HALF;
 use crate::painted::{PAINTS, STACK};
 use crate::promise::promised;
+use crate::way::{GIVEN_BACK, WRITTEN};
 use std::io::{BufRead, BufReader};
 use std::os::unix::process::ExitStatusExt;
 use std::process::{Command, ExitCode, ExitStatus, Stdio};
@@ -11,6 +12,8 @@ use std::process::{Command, ExitCode, ExitStatus, Stdio};
 struct Measured {
     /// Its number, from 1 on.
     number: usize,
+    /// Whether the call writes a text.
+    writes: bool,
     sort: String,
     name: String,
     length: usize,
@@ -26,13 +29,15 @@ impl Measured {
     fn of(number: usize, lines: &[String]) -> Measured {
         let words: Vec<&str> = lines[0].split('\t').collect();
         let calls: Vec<(&str, &str)> = lines[1..].iter().filter_map(|line| line.split_once(' ')).collect();
+        let writes = words[0] == WRITTEN.name || words[0] == GIVEN_BACK.name;
         Measured {
             number,
-            sort: words[0].to_string(),
-            name: words[1].to_string(),
-            length: words[2].parse().expect("a length"),
-            levels: words[3].parse().expect("levels"),
-            expected: words[4].to_string(),
+            writes,
+            sort: if writes { format!("{}, {}", words[1], words[0]) } else { words[1].to_string() },
+            name: words[2].to_string(),
+            length: words[3].parse().expect("a length"),
+            levels: words[4].parse().expect("levels"),
+            expected: words[5].to_string(),
             answers: calls.iter().map(|call| call.1.to_string()).collect(),
             taken: calls.iter().map(|call| call.0.parse().expect("bytes")).max().unwrap_or(0),
         }
@@ -42,9 +47,15 @@ impl Measured {
         self.answers.len() == PAINTS.len()
     }
 
+    /// The source is not refused by the reader.
+    fn accepted(&self) -> bool {
+        !self.expected.starts_with(|digit: char| digit.is_ascii_digit() && digit != '0')
+    }
+
     /// What is wrong with it, if anything is.
-    fn fault(&self, promise: usize) -> Option<String> {
+    fn fault(&self, promises: [usize; 2]) -> Option<String> {
         let Measured { number, sort, name, .. } = self;
+        let promise = promises[self.writes as usize];
         let what = if !self.whole() {
             format!("takes more than the {} bytes of the stack", grouped(STACK))
         } else if let Some(answer) = self.answers.iter().find(|answer| **answer != self.expected) {
@@ -66,23 +77,16 @@ const SEGMENT: i32 = 11;
 
 pub fn check() -> ExitCode {
     let (all, ended) = measured();
-    let [promise, binding] = promised();
+    let promises = promised();
     print_table(&all);
     println!("\nIn a source's name, `$` is where the next level stands.");
-    let mut faults: Vec<String> = all.iter().filter_map(|one| one.fault(promise)).collect();
+    let mut faults: Vec<String> = all.iter().filter_map(|one| one.fault(promises.map(|[header, _]| header))).collect();
     let passed = all.len() - faults.len();
-    if let Some(deepest) = all.iter().filter(|one| one.whole()).max_by_key(|one| one.taken) {
-        println!(
-            "deepest of all: {} bytes, source {}, {}, {}",
-            grouped(deepest.taken),
-            deepest.number,
-            deepest.sort,
-            deepest.name
-        );
-    }
-    println!("promised: {} bytes", grouped(promise));
-    if binding != promise {
-        faults.push(format!("the Rust crate promises {} bytes", grouped(binding)));
+    for (writes, [promise, binding]) in [false, true].into_iter().zip(promises) {
+        print_deepest(&all, writes, promise);
+        if binding != promise {
+            faults.push(format!("the Rust crate promises {} bytes", grouped(binding)));
+        }
     }
     let overflow = ended.signal() == Some(SEGMENT) && all.last().is_some_and(|one| !one.whole());
     if !ended.success() && !overflow {
@@ -95,6 +99,15 @@ pub fn check() -> ExitCode {
     } else {
         ExitCode::FAILURE
     }
+}
+
+fn print_deepest(all: &[Measured], writes: bool, promise: usize) {
+    let what = if writes { "that writes" } else { "that reads or checks" };
+    if let Some(deepest) = all.iter().filter(|one| one.whole() && one.writes == writes).max_by_key(|one| one.taken) {
+        let Measured { number, sort, name, taken, .. } = deepest;
+        println!("the deepest call {what}: {} bytes, source {number}, {sort}, {name}", grouped(*taken));
+    }
+    println!("promised: {} bytes", grouped(promise));
 }
 
 /// All sources that were begun, and how the measuring ended.
@@ -117,7 +130,7 @@ fn print_table(all: &[Measured]) {
     }
     for sort in sorts {
         let rows: Vec<&Measured> = all.iter().filter(|one| one.sort == sort).collect();
-        let accepted = rows.iter().filter(|one| one.expected == "0 0").count();
+        let accepted = rows.iter().filter(|one| one.accepted()).count();
         let (longest, deepest) = (rows.iter().map(|one| one.length).max(), rows.iter().map(|one| one.taken).max());
         println!(
             "| {sort} | {} | {} | {} | {} | {} | {} |",

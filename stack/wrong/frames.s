@@ -222,6 +222,66 @@ _ZN1a1b17hfedcba9876543210E:
     ret
     .endif
 
+    .ifdef shares # seven calls for an E
+    entry
+    ret
+    .globl tarbucket_write_source
+tarbucket_write_source:
+    call _ZN11writer_expr8put_expr17h0123456789abcdefE
+    ret
+_ZN11writer_expr8put_expr17h0123456789abcdefE:
+    push %rbx
+    call _ZN11writer_expr8put_expr17h0123456789abcdefE
+    pop %rbx
+    ret
+    .endif
+
+    .ifdef members # one call for an E, where another function stands between
+    entry
+    ret
+    .globl tarbucket_write_source
+tarbucket_write_source:
+    call _ZN11writer_expr8put_expr17h0123456789abcdefE
+    ret
+_ZN11writer_expr8put_expr17h0123456789abcdefE:
+    push %rbx
+    call members_of
+    pop %rbx
+    ret
+members_of:
+    call _ZN11writer_expr8put_expr17h0123456789abcdefE
+    ret
+    .endif
+
+    .ifdef blocks # two calls for a Block, and two in none
+    entry
+    ret
+    .globl tarbucket_write_source
+tarbucket_write_source:
+    call _ZN11writer_stmt8put_line17h0123456789abcdefE
+    ret
+_ZN11writer_stmt8put_line17h0123456789abcdefE:
+    push %rbx
+    call _ZN11writer_stmt8put_line17h0123456789abcdefE
+    pop %rbx
+    ret
+    .endif
+
+    .ifdef within # it may open no E
+    entry
+    ret
+    .globl tarbucket_write_source
+tarbucket_write_source:
+    call _ZN11writer_expr4step17h0123456789abcdefE
+    ret
+_ZN11writer_expr4step17h0123456789abcdefE:
+    call _ZN11writer_expr8put_expr17h0123456789abcdefE
+    ret
+_ZN11writer_expr8put_expr17h0123456789abcdefE:
+    call _ZN11writer_expr4step17h0123456789abcdefE
+    ret
+    .endif
+
 big:
     sub $1000, %rsp
     add $1000, %rsp
@@ -229,9 +289,14 @@ big:
 small:
     ret
 
-    .ifndef alone # the other entry, which frames.py wants as well
+    .ifndef alone # the other entries, which frames.py wants as well
     .globl tarbucket_utf8_error
 tarbucket_utf8_error:
+    ret
+    .endif
+    .ifndef tarbucket_write_source
+    .globl tarbucket_write_source
+tarbucket_write_source:
     ret
     .endif
 

@@ -6,7 +6,13 @@
         uint32_t *answer, size_t answer_len
 #define ARGUMENTS src, src_len, tokens, tokens_len, text, text_len, tree, tree_len, answer, answer_len
 
+#define WRITE_PARAMETERS                                                                                                                             \
+    const uint8_t *src, size_t src_len, uint32_t *tokens, size_t tokens_len, uint8_t *text, size_t text_len, uint32_t *tree, size_t tree_len,        \
+        uint8_t *out, size_t out_len, uint32_t *answer, size_t answer_len
+#define WRITE_ARGUMENTS src, src_len, tokens, tokens_len, text, text_len, tree, tree_len, out, out_len, answer, answer_len
+
 uint32_t true_parse_source(PARAMETERS);
+uint32_t true_write_source(WRITE_PARAMETERS);
 uint32_t true_utf8_error(const uint8_t *src, size_t src_len, uint64_t *answer, size_t answer_len);
 
 /* A frame for each: what is written behind the call keeps the compiler from making a loop of it. */
@@ -44,6 +50,15 @@ uint32_t tarbucket_parse_source(PARAMETERS) {
     uint32_t number = frames(COUNT, ARGUMENTS);
     if (AFTER == 1 && number == TARBUCKET_TOO_DEEP) answer[0] = number = TARBUCKET_MISFIT;
     if (AFTER == 2) TOUCH(40000);
+    return number;
+}
+
+uint32_t tarbucket_write_source(WRITE_PARAMETERS) {
+    uint32_t number = true_write_source(WRITE_ARGUMENTS);
+    if (AFTER == 5) TOUCH(132000);
+    if (AFTER == 6 && number == TARBUCKET_ACCEPTED) out[answer[TARBUCKET_ANSWER_LENGTH] - 1] = ' ';
+    if (AFTER == 8 && number == TARBUCKET_ACCEPTED && out[0] == 'a') out[0] = 'b';
+    if (AFTER == 7 && number == TARBUCKET_ACCEPTED) answer[0] = number = TARBUCKET_NO_ROOM;
     return number;
 }
 
