@@ -1,5 +1,5 @@
 #!/bin/sh
-# Times `pyh check` over the scripts of all kiosks, 340 folders of 60, one script of each refused: the best of ten runs, by the wall's clock, for each
+# Times `pyh check` and `pyh fmt` over the scripts of all kiosks, 340 folders of 60, one script of each refused: the best of ten runs, by the wall's clock, for each
 # format. The files were just written, so the system has them in memory. About a minute where the reader is proved already.
 set -eu
 cd "$(dirname "$0")/.."
@@ -31,3 +31,5 @@ for format in text short json; do
     best "pyh check --format $format" 1 target/cargo/release/pyh check --format "$format" "$kiosks"
     tail -n 1 target/bench/checked
 done
+best "pyh fmt --check" 1 target/cargo/release/pyh fmt --check "$kiosks"
+tail -n 1 target/bench/checked

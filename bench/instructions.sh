@@ -1,7 +1,7 @@
 #!/bin/sh
-# Counts instructions under valgrind, which no load changes: the mean of one source for each reader and bound, and what zeroing has of it; then the mean
-# of one text for each UTF-8 check. Wants bench/run.sh to have been run. `bench/instructions.sh utf8` prints the checks alone,
-# `bench/instructions.sh profile` the reader's functions.
+# Counts instructions under valgrind, which no load changes: the mean of one source for each reader and bound, and what zeroing has of it; of the reader with the writer;
+# then the mean of one text for each UTF-8 check. Wants bench/run.sh to have been run. `bench/instructions.sh utf8` prints the checks alone, `bench/instructions.sh writer`
+# the writer's rows alone, `bench/instructions.sh profile` the reader's functions, `bench/instructions.sh profile writer` those of reader and writer.
 set -eu
 cd "$(dirname "$0")/.."
 bench=target/bench/release/bench
@@ -10,7 +10,7 @@ mkdir -p "$out"
 
 # The instructions of a side's one pass over a set.
 count() {
-    valgrind --tool=callgrind --callgrind-out-file="$out/$1.$2" --toggle-collect='pass_*' "$bench" --pass "$1" "$2" 1 >/dev/null 2>"$out/log"
+    valgrind --tool=callgrind --callgrind-out-file="$out/$1.$2" --toggle-collect='pass_*' "$bench" "${3:---pass}" "$1" "$2" 1 >/dev/null 2>"$out/log"
     sed -n 's/^totals: //p' "$out/$1.$2" | grep .
 }
 
@@ -37,9 +37,25 @@ if [ "${1-}" = utf8 ]; then
     checks
     exit
 fi
+# The table of the writer: a row for each set, instructions per source of each side, and those of the writer alone, per byte of text.
+writers() {
+    echo "| writer | reader, static library | reader and writer | the same, 65,536 bytes lent | plain Rust, areas filled | and text | writer alone | per byte of text |"
+    echo "|---|---|---|---|---|---|---|---|"
+    "$bench" --written >"$out/written"
+    while read -r set sources bytes; do
+        counts=$(for side in 0 1 2 3 4; do count $side "$set" --pass-writer; done)
+        echo "$counts" | awk -v row="| $set |" -v sources="$sources" -v bytes="$bytes" \
+            '{ of[NR] = $1; row = row sprintf(" %d |", $1 / sources) } END { alone = of[2] - of[1]; print row sprintf(" %d | %.1f |", alone / sources, alone / bytes) }'
+    done <"$out/written"
+}
+
+if [ "${1-}" = writer ]; then
+    writers
+    exit
+fi
 if [ "${1-}" = profile ]; then
-    count 0 scripts >/dev/null
-    exec callgrind_annotate "$out/0.scripts"
+    if [ "${2-}" = writer ]; then count 1 scripts --pass-writer >/dev/null; else count 0 scripts >/dev/null; fi
+    exec callgrind_annotate "$out/$([ "${2-}" = writer ] && echo 1 || echo 0).scripts"
 fi
 
 python=$(python3 -c 'import sys; print(sys.executable)')
@@ -68,4 +84,5 @@ for set in scripts 1000 65536 korean; do
     row "plain Rust, and areas filled" "$(count 5 $set)"
     row "CPython, ast only" "$(($(python_count $set 2) - $(python_count $set 1)))"
 done
+writers
 checks

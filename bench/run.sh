@@ -1,5 +1,5 @@
 #!/bin/sh
-# Builds the static library and the driver, times all readers and bounds over the same sources and the UTF-8 check over texts, and prints the tables. Under
+# Builds the static library and the driver, times all readers, bounds and writers over the same sources and the UTF-8 check over texts, and prints the tables. Under
 # two minutes where the reader is proved already.
 set -eu
 cd "$(dirname "$0")/.."

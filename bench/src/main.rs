@@ -1,7 +1,9 @@
-//! Times the verified reader beside lower bounds in C, a plain reader in Rust and CPython's parser, over the same sources; and its UTF-8 check alone.
+//! Times the verified reader beside lower bounds in C, a plain reader in Rust and CPython's parser, over the same sources; the writer beside the reader and a plain
+//! writer; and the UTF-8 check alone.
 //!
 //! `bench FOLDER` writes the sources into FOLDER and prints the table; `bench --pass SIDE SET TIMES` makes passes of
-//! one side alone, for a profile; `bench --utf8` prints the UTF-8 check's table alone and `bench --texts` the names, numbers and bytes of its
+//! one side alone, for a profile, and `bench --pass-writer SIDE SET TIMES` of one of the writer's; `bench --writer` prints the writer's table alone and
+//! `bench --written` the bytes of its texts, `bench --utf8` prints the UTF-8 check's table alone and `bench --texts` the names, numbers and bytes of its
 //! texts; `bench --sources FOLDER` writes the sources alone; `bench --kiosks FOLDER` writes a folder of scripts for each kiosk.
 
 mod clock;
@@ -10,11 +12,13 @@ mod scripts;
 mod sides;
 mod texts;
 mod utf8;
+mod writer;
 
 use sides::{Buffers, Side, PLAIN, SIDES};
 use std::collections::BTreeSet;
 use std::path::Path;
 use std::process::Command;
+use writer::WRITERS;
 
 /// Sources that are measured together.
 struct Set {
@@ -33,7 +37,11 @@ impl Set {
 }
 
 fn sets() -> [Set; 4] {
-    let set = |name, passes, sources| Set { name, passes, sides: &SIDES, clock: clock::thread, sources };
+    sets_for(&SIDES)
+}
+
+fn sets_for(sides: &'static [Side]) -> [Set; 4] {
+    let set = |name, passes, sources| Set { name, passes, sides, clock: clock::thread, sources };
     [
         set("scripts", 150, scripts::scripts()),
         set("1000", 300, (0..64).map(|first| scripts::sized(1_000, first)).collect()),
@@ -46,23 +54,28 @@ fn main() {
     let arguments: Vec<String> = std::env::args().skip(1).collect();
     let arguments: Vec<&str> = arguments.iter().map(String::as_str).collect();
     match arguments[..] {
-        ["--pass", side, set, times] => one_side(side, set, times),
+        ["--pass", side, set, times] => one_side(side, set, times, &sets().into_iter().chain(texts::sets()).collect::<Vec<_>>()),
         ["--sources", folder] => write_sources(Path::new(folder), &sets()),
         ["--kiosks", folder] => write_kiosks(Path::new(folder)),
+        ["--writer"] => writer::table(&sets_for(&WRITERS), &mut [Buffers::new(), Buffers::new()]),
+        ["--written"] => writer::print_texts(&sets(), &mut [Buffers::new(), Buffers::new()]),
+        ["--pass-writer", side, set, times] => one_side(side, set, times, &sets_for(&WRITERS)),
         ["--utf8"] => utf8::table(&texts::sets(), &mut Buffers::new()),
         ["--texts"] => texts::sets().iter().for_each(|set| println!("{} {} {}", set.name, set.sources.len(), set.bytes())),
         [folder] if !folder.starts_with("--") => table(Path::new(folder)),
-        _ => panic!("bench FOLDER, or --utf8, --texts, --sources FOLDER, --kiosks FOLDER, --pass SIDE SET TIMES"),
+        _ => panic!(
+            "bench FOLDER, or --writer, --written, --utf8, --texts, --sources FOLDER, --kiosks FOLDER, --pass[-writer] SIDE SET TIMES"
+        ),
     }
 }
 
 /// Passes of a side, given by its number.
-fn one_side(side: &str, set: &str, times: &str) {
+fn one_side(side: &str, set: &str, times: &str, sets: &[Set]) {
     let times: u64 = times.parse().expect("a number of passes");
-    let set = sets().into_iter().chain(texts::sets()).find(|one| one.name == set).expect("a set's name");
+    let set = sets.iter().find(|one| one.name == set).expect("a set's name");
     let (name, pass) = set.sides[side.parse::<usize>().expect("a side's number")];
     let mut buffers = Buffers::new();
-    let best = (0..times).map(|_| time(pass, &set, &mut buffers)).min().unwrap_or(0);
+    let best = (0..times).map(|_| time(pass, set, &mut buffers)).min().unwrap_or(0);
     let sources = set.sources.len();
     println!("{name}: {times} passes over {sources} sources, the best {:.1} ns per source", best as f64 / sources as f64);
 }
@@ -112,6 +125,7 @@ fn table(folder: &Path) {
     let row = |set| Row { set, sides: times(set, &mut buffers[0]), python: of_set(set, &python) };
     let rows: Vec<Row> = sets.iter().map(row).collect();
     rows.iter().for_each(print_set);
+    writer::table(&sets_for(&WRITERS), &mut buffers);
     utf8::table(&texts::sets(), &mut buffers[0]);
     print_goals(&rows);
 }

@@ -33,17 +33,18 @@ fn zeros<Cell: Copy + Into<u32>>(area: &[Cell], behind: &[Cell]) -> bool {
     area.iter().all(|&cell| cell.into() == 0) && behind.iter().all(|&cell| cell.into() == PAINT.into())
 }
 
-/// The areas, for one byte more than the longest source; never cleared between sources or runs.
+/// The areas, for one byte more than the longest source, and room for the longest text; never cleared between sources or runs.
 pub struct Buffers {
     pub tokens: Vec<u32>,
     pub text: Vec<u8>,
     pub tree: Vec<u32>,
+    pub out: Vec<u8>,
 }
 
 impl Buffers {
     pub fn new() -> Buffers {
         let (tokens, text, tree) = areas(plain::LONGEST + 1);
-        Buffers { tokens: vec![7; tokens], text: vec![7; text], tree: vec![7; tree] }
+        Buffers { tokens: vec![7; tokens], text: vec![7; text], tree: vec![7; tree], out: vec![7; plain::LONGEST] }
     }
 
     /// Paints the areas of a source of `n` bytes and a little behind them, so that it is seen which cells are written.
@@ -63,7 +64,7 @@ impl Buffers {
     }
 
     /// The areas of a source of `n` bytes, which the buffers must hold.
-    fn hold(&self, n: usize) -> (usize, usize, usize) {
+    pub fn hold(&self, n: usize) -> (usize, usize, usize) {
         let (tokens, text, tree) = areas(n);
         assert!(tokens <= self.tokens.len() && text <= self.text.len() && tree <= self.tree.len());
         (tokens, text, tree)
