@@ -1,7 +1,11 @@
 #!/bin/sh
 # Builds wrong copies of pyh: the stored cases must find each, and nothing in a copy that has no edit. It wants what pyh/test.sh wants, and about
-# half an hour.
+# an hour.
+#
+#     pyh/wrong.sh           all
+#     pyh/wrong.sh FILE...   those with an edit in these files of pyh/src
 set -eu
+files=" $* "
 cd "$(dirname "$0")/.."
 rt staticlib ffi >/dev/null
 root=$PWD
@@ -21,6 +25,7 @@ copy() {
 
 # wrong WHAT FILE EDIT
 wrong() {
+    case $files in *" $2 "* | "  ") ;; *) return 0 ;; esac
     copy "$2" "$3"
     if cmp -s "pyh/src/$2" "$out/pyh/src/$2"; then
         echo "$1: the edit changes nothing"
@@ -131,4 +136,50 @@ wrong "a tuple behind each if" comma.rs 's/.is_some_and(|from| self.helps(from..
 wrong "the value of for taken for its name" comma.rs 's/ && self.src.first.end..last.start..trim_ascii().is_empty()//'
 wrong "a comma told before a quote that is missing" misfit.rs 's/self.quote().or_else(comma)/comma().or_else(|| self.quote())/'
 wrong "a comment taken for the last token" source.rs "s/^                b'#' => .*//"
+wrong "comments lost in silence" fmt.rs 's/comments(&self.reader, src).filter(|_| !self.asked.drop)/None::<crate::comments::Comments>/'
+wrong "comments that can't be dropped" fmt.rs 's/.filter(|_| !self.asked.drop)//'
+wrong "a file with comments left, as if nothing were wrong" fmt.rs 's/ | Totals { left: 1.., .. }//'
+wrong "a file that can't be written, as if nothing were wrong" fmt.rs 's/ | Totals { unwritten: 1.., .. }//'
+wrong "--check that finds nothing wrong" fmt.rs 's/Totals { other: 1.., .. } if self.asked.check => REFUSED,//'
+wrong "--diff with the status of --check" fmt.rs 's/ if self.asked.check => REFUSED/ if self.asked.check || self.asked.diff => REFUSED/'
+wrong "a file in standard form written again" fmt.rs 's/Ok(text) if text == src =>/Ok(text) if text == src \&\& !self.asked.write =>/'
+wrong "a script in standard form not printed" fmt.rs 's/self.out.write_bytes(src);//'
+wrong "a script in standard form printed by --check" fmt.rs 's/if let Asked { write: false, check: false, diff: false, .. } = self.asked {/if !self.asked.write {/'
+wrong "refusals among the texts" fmt.rs 's/say(&report::unwritten(\(.*\)));/self.out.write(\&report::unwritten(\1));/'
+wrong "refusals with the colours of standard output" fmt.rs 's/e, &self.errors)/e, \&self.look)/'
+wrong "messages of fmt before what stood before them" fmt.rs 's/^ *self.out.flush();$//'
+wrong "totals of fmt where nothing could be printed" fmt.rs 's/ && !self.out.is_lost() {/ {/'
+wrong "what was not written taken for what was not read" fmt.rs 's/refused + left + unwritten, /refused + left, /'
+wrong "--write and --check" fmt.rs 's/_ if write && check => .*//'
+wrong "--write and --diff" fmt.rs 's/_ if write && diff => .*//'
+wrong "--drop-comments where nothing is written" fmt.rs 's/_ if drop && (check || diff) => .*//'
+wrong "standard input for --write" fmt.rs 's/_ if write && wanted.names.is_empty() => .*//'
+wrong "standard input among files for --write" fmt.rs 's/_ if write && input => .*//'
+wrong "names of scripts as they are" fmt.rs 's/format!("{}.n", names::shown(name))/format!("{}\\n", name.to_string_lossy())/'
+wrong "a # in a string taken for a comment" comments.rs 's/(end..start as usize)/(end..next as usize)/'
+wrong "two Dedents of one line taken for a gap" comments.rs 's/src.get(end..start as usize).unwrap_or_default()/\&src[end..start as usize]/'
+wrong "a comment behind the last token passed over" comments.rs 's/in reader.tokens() {/in reader.tokens().collect::<Vec<_>>().split_last().unwrap().1.iter().copied() {/'
+wrong "the last comment for the first" comments.rs 's/found.get_or_insert(\(.*\)).count += count;/{ let was = found.take().map_or(0, |c: Comments| c.count); found.insert(\1).count += was + count; }/'
+wrong "a link replaced by a file" replace.rs 's/fs::canonicalize(name).map_err(unwritten)?/PathBuf::from(name)/'
+wrong "a new file's own mode" replace.rs 's/file.set_permissions(was.permissions())/Ok(())/'
+wrong "a write-protected file replaced" replace.rs 's/^    File::options().write(true).open(&path).*//'
+wrong "a file left beside the script" replace.rs 's/let _ = fs::remove_file(&beside);//'
+wrong "a script cut where there is no room" replace.rs 's/let done = fill.*/let _ = fs::remove_file(\&beside); let done = fs::write(\&path, text);/'
+wrong "a new file whose name is taken" replace.rs 's/ && tries < 100 => tries += 1/ \&\& tries > 100 => tries += 1/'
+wrong "a new file's name that grows with the other's" replace.rs 's/format!(".pyh-fmt-{id}-{tries}.tmp")/format!("{}.{id}-{tries}.tmp", path.file_name().unwrap().to_string_lossy())/'
+wrong "a pipe taken for a file" replace.rs 's/if !was.is_file() {/if false {/'
+wrong "two lines around a change" diff.rs 's/AROUND: usize = 3/AROUND: usize = 2/'
+wrong "changes far from one another in one part" diff.rs 's/<= 2 \* AROUND/<= 3 * AROUND/'
+wrong "changes in two parts with nothing between" diff.rs 's/<= 2 \* AROUND/< 2 * AROUND/'
+wrong "no line that stays" diff.rs 's/old.get(i) == new.get(j)/i > old.len() + j/'
+wrong "statements in the order of their nodes" diff.rs 's/starts.sort_unstable();//'
+wrong "an else that has no line" diff.rs 's/ | Kind::Else//'
+wrong "no lines at the place behind them" diff.rs 's/0 => format!("{},0", lines.start)/0 => format!("{},0", lines.start + 1)/'
+wrong "a missing line feed not told" diff.rs 's/ No newline at end of file.n//'
+wrong "control characters of a diff as they are" diff.rs 's/plain(line)/String::from_utf8_lossy(line)/'
+wrong "control characters of a patch replaced" diff.rs 's/match look.columns {/match Some(0) {/'
+wrong "a name behind an option that takes none taken for its value" arguments.rs 's/if option.values.is_empty() { None } else { rest.next().cloned() }/rest.next().cloned()/'
+wrong "a value that is passed over" arguments.rs 's/Err(no_value(OsStr::new(option.name)))/Ok("")/'
+wrong "an empty block at the script's end" sentence.rs 's/line_number(src, header.start));$/line_number(src, src.len()));/'
+wrong "an empty block at the script's start" report.rs 's/(Some(src.len()), sentence/(Some(error.place()), sentence/'
 echo "$count passed, 0 failed"

@@ -17,7 +17,7 @@ pub struct Command {
     pub run: fn(&Wanted) -> Result<u8, String>,
 }
 
-/// An option that takes one of some values; the first is the one where the option is not given.
+/// An option that takes one of some values; the first is the one where the option is not given. One that takes none is given or not.
 pub struct Choice {
     pub name: &'static str,
     pub values: &'static [&'static str],
@@ -66,6 +66,11 @@ impl Wanted<'_> {
         let option = self.options.iter().find(|o| o.name == name).expect("an option of the command");
         given.unwrap_or(option.values[0])
     }
+
+    /// Whether an option that takes no value was given.
+    pub fn has(&self, name: &str) -> bool {
+        self.chosen.iter().any(|c| c.0 == name)
+    }
 }
 
 /// Options may stand before names and behind them; `--` ends them, and `-` is a name.
@@ -84,7 +89,7 @@ pub fn parse<'a>(words: &'a [OsString], options: &'static [Choice]) -> Result<As
             return Ok(Asked::Version);
         } else {
             let (option, value) = option(word, options)?;
-            let value = value.or_else(|| rest.next().cloned());
+            let value = value.or_else(|| if option.values.is_empty() { None } else { rest.next().cloned() });
             wanted.chosen.push((option.name, chosen(option, value)?));
         }
     }
@@ -104,10 +109,14 @@ pub fn parted(word: &OsStr) -> (&OsStr, Option<OsString>) {
 /// Why there is no such option here.
 pub fn no_option(name: &OsStr, options: &'static [Choice]) -> String {
     if BOTH.iter().any(|n| name == *n) {
-        return format!("{} takes no value", quoted(name));
+        return no_value(name);
     }
     let near = nearest(name, BOTH.into_iter().chain(options.iter().map(|o| o.name)));
     format!("no option is called {}{near}", quoted(name))
+}
+
+fn no_value(name: &OsStr) -> String {
+    format!("{} takes no value", quoted(name))
 }
 
 /// The option that a word names, and its value, if that stands behind a `=`.
@@ -120,6 +129,9 @@ fn option(word: &OsStr, options: &'static [Choice]) -> Result<(&'static Choice, 
 }
 
 fn chosen(option: &'static Choice, value: Option<OsString>) -> Result<&'static str, String> {
+    if option.values.is_empty() {
+        return if value.is_none() { Ok("") } else { Err(no_value(OsStr::new(option.name))) };
+    }
     let all = option.values.join(", ");
     let Some(value) = value else {
         return Err(format!("'{}' wants a value: one of {all}", option.name));

@@ -3,6 +3,7 @@ use crate::arguments::{Choice, Command, Wanted};
 use crate::output::{say, why, Output};
 use crate::progress::Progress;
 use crate::scripts::{Found, What};
+use crate::sentence::count;
 use crate::terminal::{Look, GREEN, RED};
 use crate::{json, names, report, scripts, ACCEPTED, REFUSED, TROUBLE};
 use std::ffi::OsStr;
@@ -90,7 +91,7 @@ fn check(wanted: &Wanted) -> Result<u8, String> {
         "json" => Format::Json,
         _ => Format::Text,
     };
-    let check = Check { format, look: Look::new(), out: Output::new(), progress: Progress::new(), totals: Totals::default() };
+    let check = Check { format, look: Look::of(&std::io::stdout()), out: Output::new(), progress: Progress::new(), totals: Totals::default() };
     Ok(check.run(&wanted.names))
 }
 
@@ -204,7 +205,7 @@ impl Totals {
     fn line(&self, paint: impl Fn(&str) -> String) -> String {
         let scripts = self.accepted + self.refused;
         let refused = paint(&format!("{} refused", self.refused));
-        let mut line = format!("{scripts} script{} read: {} accepted, {refused}", if scripts == 1 { "" } else { "s" }, self.accepted);
+        let mut line = format!("{} read: {} accepted, {refused}", count(scripts, "script"), self.accepted);
         if self.unreadable > 0 {
             line += &format!("; {} could not be read", self.unreadable);
         }

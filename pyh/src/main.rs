@@ -6,14 +6,18 @@ mod before;
 mod character;
 mod check;
 mod comma;
+mod comments;
+mod diff;
 mod drawing;
 mod ending;
 mod excerpt;
+mod fmt;
 mod json;
 mod misfit;
 mod names;
 mod output;
 mod progress;
+mod replace;
 mod report;
 mod scripts;
 mod sentence;
@@ -34,11 +38,11 @@ pub const ACCEPTED: u8 = 0;
 pub const REFUSED: u8 = 1;
 pub const TROUBLE: u8 = 2;
 
-const COMMANDS: [&Command; 2] = [&show::COMMAND, &check::COMMAND];
+const COMMANDS: [&Command; 3] = [&show::COMMAND, &check::COMMAND, &fmt::COMMAND];
 
 const USAGE: &str = "usage: pyh COMMAND [OPTION]... [FILE]...";
 
-const HEAD: &str = "pyh shows what the reader makes of kiosk scripts.";
+const HEAD: &str = "pyh shows what the reader makes of kiosk scripts, and writes them alike.";
 
 fn help() -> String {
     let commands: String = COMMANDS.iter().map(|c| format!("  {:<8} {}\n", c.name, c.summary)).collect();

@@ -25,8 +25,12 @@ impl Output {
     }
 
     pub fn write(&mut self, text: &str) {
+        self.write_bytes(text.as_bytes());
+    }
+
+    pub fn write_bytes(&mut self, bytes: &[u8]) {
         if self.failed.is_none() {
-            self.failed = self.writer.write_all(text.as_bytes()).err();
+            self.failed = self.writer.write_all(bytes).err();
         }
     }
 

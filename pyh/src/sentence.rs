@@ -32,11 +32,23 @@ pub fn sentence(src: &[u8], error: Error) -> String {
     }
 }
 
+/// Of 18, with the limit for a source, since the text must be one.
+pub const NO_ROOM: &str = "The standard text would be longer than 65,536 bytes, the most that is read: shorten the script, or part it in two.";
+
+/// Of 17: whose block it is. With a `pass` the script still needs a line feed, as each block does.
+pub fn empty_block(src: &[u8]) -> String {
+    let header = before(src).first;
+    let (word, line) = (quoted(&src[header.clone()]), line_number(src, header.start));
+    format!("The block of {word} (line {line}) has no statement: write `pass` and a line break here.")
+}
+
 pub fn spaces(line: &[u8]) -> String {
-    match indentation(line) {
-        1 => "1 space".to_string(),
-        n => format!("{n} spaces"),
-    }
+    count(indentation(line), "space")
+}
+
+/// One of something, or more.
+pub fn count(n: usize, what: &str) -> String {
+    format!("{n} {what}{}", if n == 1 { "" } else { "s" })
 }
 
 /// A part of the script between backquotes, cut where it is long.

@@ -37,7 +37,7 @@ fn show(wanted: &Wanted) -> Result<u8, String> {
         [] => vec![OsStr::new(scripts::INPUT)],
         ref names => names.to_vec(),
     };
-    let look = Look::new();
+    let look = Look::of(&std::io::stdout());
     let mut reader = Reader::new();
     let mut out = Output::new();
     let mut src = Vec::new();

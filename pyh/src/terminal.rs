@@ -18,9 +18,9 @@ pub const BOLD: &str = "\x1b[1m";
 const PLAIN: &str = "\x1b[0m";
 
 impl Look {
-    /// Of standard output: colours where it is a terminal that has them, and NO_COLOR is unset.
-    pub fn new() -> Look {
-        let columns = columns(&std::io::stdout());
+    /// Of a stream: colours where it is a terminal that has them, and NO_COLOR is unset.
+    pub fn of(stream: &(impl AsRawFd + IsTerminal)) -> Look {
+        let columns = columns(stream);
         Look { colours: columns.is_some() && moves() && var_os("NO_COLOR").is_none(), columns }
     }
 

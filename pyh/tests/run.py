@@ -10,6 +10,7 @@ import floats
 import known
 import streams
 import terminal
+import texts
 import transcripts
 
 HERE = os.path.dirname(os.path.abspath(__file__))
@@ -42,7 +43,7 @@ def main():
         for name in ("NO_COLOR", "COLUMNS"):
             os.environ.pop(name, None)
         os.environ.update(TERM="xterm-256color", LC_ALL="C.UTF-8")
-        for part in (transcripts, known, floats, carets, cuts, streams, terminal):
+        for part in (transcripts, known, floats, carets, cuts, texts, streams, terminal):
             work = os.path.join(folder, part.__name__)
             os.mkdir(work)
             try:

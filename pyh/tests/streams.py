@@ -12,6 +12,9 @@ def run(cases, work, tally):
     for i in range(3000):
         with open(os.path.join(many, "%d.pyh" % i), "w") as file:
             file.write("a b\n")
+    loose = os.path.join(work, "loose.pyh")
+    with open(loose, "w") as file:
+        file.write("a=1\n")
     for words, status in (
         (["show", bad], 1),
         (["show"] + [bad] * 3000, 1),
@@ -19,15 +22,18 @@ def run(cases, work, tally):
         (["check", many], 1),
         (["check", "--format", "short", many], 1),
         (["check", "--format", "json", many], 1),
+        (["fmt"] + [loose] * 20000, 0),
+        (["fmt", "--check", loose], 1),
+        (["fmt", "--diff"] + [loose] * 3000, 0),
         (["--help"], 0),
         (["check", "--version"], 0),
     ):
         ended, err = closed(words, "stdout")
         tally.case("a closed pipe: pyh %s" % " ".join(map(os.path.basename, words[:4])), ended == status and b"panic" not in err, "%s %s" % (ended, err))
-    for words in (["check", "no such file"], ["check", "--bad"], ["bad"], ["show", "no such file"]):
+    for words in (["check", "no such file"], ["check", "--bad"], ["bad"], ["show", "no such file"], ["fmt", "no such file"]):
         ended, _ = closed(words, "stderr")
         tally.case("standard error closed: pyh %s" % " ".join(words), ended == 2, ended)
-    for words in (["--help"], ["show", "--help"], ["check", "--help"]):
+    for words in (["--help"], ["show", "--help"], ["check", "--help"], ["fmt", "--help"]):
         text = subprocess.run(["pyh"] + words, capture_output=True).stdout.decode()
         wide = [line for line in text.splitlines() if len(line) > 80]
         tally.case("80 columns: pyh %s" % " ".join(words), text and not wide, wide)

@@ -13,6 +13,7 @@ LONG = '["%s"] oben ["%s"]\n' % ('", "'.join("Halle %d" % i for i in range(40)),
 DEEP = "(" * 30 + "a" + ",)" * 30 + "\n"
 MARKS = "α\u0301" * 60 + " ε\u0301ξοδος" + "α\u0301" * 60 + "\n"
 KOREAN = "안내 = 북관 + 남관, 층수(1), 북관_입구, 남관_입구 승강기, 계단, 출구, 매표소, 화장실\n"
+LOOSE = "a = 1\nb = '\x1b[31m'\r\nc = 3\n"
 
 # NAME, the words, columns, what is other in the environment
 SHOWN = [
@@ -35,17 +36,24 @@ SHOWN = [
     ("check_short", ["check", "--format", "short", "good.pyh", "long.pyh"], 80, {}),
     ("check_json", ["check", "--format", "json", "good.pyh", "long.pyh"], 80, {}),
     ("check_no_color", ["check", "good.pyh", "long.pyh"], 80, {"NO_COLOR": "1"}),
+    ("fmt_diff", ["fmt", "--diff", "loose.pyh"], 80, {}),
+    ("fmt_diff_no_color", ["fmt", "--diff", "loose.pyh"], 80, {"NO_COLOR": "1"}),
+    ("fmt_refused", ["fmt", "loose.pyh", "long.pyh"], 60, {}),
 ]
 
 
 def run(cases, work, tally):
-    scripts = {"good": "lift = 3\n", "long": LONG, "deep": DEEP, "words": "left = total-1\n", "marks": MARKS, "korean": KOREAN}
+    scripts = {"good": "lift = 3\n", "long": LONG, "deep": DEEP, "words": "left = total-1\n", "marks": MARKS, "korean": KOREAN, "loose": LOOSE}
     for name, text in scripts.items():
         with open(os.path.join(work, name + ".pyh"), "w", encoding="utf8") as file:
             file.write(text)
     for name, words, columns, other in SHOWN:
         written, status = on_terminal(words, work, columns, other)
         stored(os.path.join(cases, "terminal", name + ".out"), "%s= %d\n" % (escaped(written), status), tally)
+    told, _ = on_terminal(["fmt", "good.pyh", "long.pyh"], work, 60, {}, ["stderr"])
+    tally.case("terminal: colours on standard error alone", told.startswith(b"\x1b[1mlong.pyh\x1b[0m: \x1b[1;31mrefused"), told)
+    shown, _ = on_terminal(["fmt", "--diff", "loose.pyh"], work, 60, {}, ["stdout"])
+    tally.case("terminal: colours on standard output alone", shown.startswith(b"\x1b[1m--- loose.pyh\x1b[0m"), shown)
     progress(work, tally)
 
 

@@ -2,6 +2,7 @@
 
 cases/NAME.out is the transcript of the four commands over cases/NAME.pyh; cases/uses/*.txt are written by hand, with comments in lines that begin with `#`,
 and --write fills in what their commands print."""
+import ctypes
 import difflib
 import glob
 import os
@@ -12,6 +13,9 @@ import subprocess
 
 # a command that takes as many seconds does not end
 LIMIT = 20
+
+# as Linux has them; for others than root the call fails, and there is nothing to drop
+PR_CAPBSET_DROP, CAP_DAC_OVERRIDE = 24, 1
 
 OF_A_SCRIPT = ["show", "check", "check --format short", "check --format json"]
 
@@ -74,7 +78,54 @@ def make_kiosks(folder):
     put(folder, "capitals/two.Pyh", b"a\n")
     put(folder, "capitals/.pyh", b"a\n")
     put(folder, "capitals/pyh", b"a b\n")
+    make_forms(folder)
     too_deep(os.path.join(folder, "deep"))
+
+
+def make_forms(folder):
+    """What `pyh fmt` finds: scripts in standard form and not, with comments, and such as have no text."""
+    put(folder, "form/commented.pyh", COMMENTED.encode())
+    put(folder, "form/crlf.pyh", b"a = 1\r\nb = [1, 2]\r\n")
+    put(folder, "form/empty.pyh", b"")
+    put(folder, "form/hollow.pyh", b"halls = 2\nif halls:\n  go()\nelse:\n  ")
+    put(folder, "form/long.pyh", b"[" + b"a," * 30000 + b"]\n")
+    put(folder, "form/loose.pyh", LOOSE.encode())
+    put(folder, "form/one_comment.pyh", b"a = 1  # one\n")
+    put(folder, "form/only_comments.pyh", b"# a\n\n  # b\n")
+    put(folder, "form/refused.pyh", b"lift = \n")
+    put(folder, "form/standard.pyh", b"if a:\n  b\n")
+    put(folder, "form/two\nlines.pyh", b"a=1\n")
+    put(folder, "form/unended.pyh", b"a = 1\nb = 2")
+
+
+LOOSE = """\
+halls = ["북관", 'C']
+closed={ 'North' ,}
+lift = 007
+
+for hall in halls:
+  if (6 <= now() < 22): show( hall ); count=count+ 1
+  else: pass
+  tell(hall)
+  tell(lift)
+  tell(closed)
+  tell(now())
+  tell("
+")
+  tell("a")
+  tell("b")
+  tell("c")
+"""
+
+COMMENTED = """\
+route = "# no comment"
+
+
+halls = [1, 2]  # the first, on a line with "quotes"
+# the second
+if halls: # the third # and no fourth
+  show('#')
+"""
 
 
 def too_deep(folder):
@@ -110,8 +161,9 @@ def commands_of(text):
 
 
 def limited():
-    """A program that reads without end must not take all memory."""
+    """A program that reads without end must not take all memory, and root may not write where no one may."""
     resource.setrlimit(resource.RLIMIT_AS, (1 << 30, 1 << 30))
+    ctypes.CDLL(None).prctl(PR_CAPBSET_DROP, CAP_DAC_OVERRIDE, 0, 0, 0)
 
 
 def transcript(line, folder):
