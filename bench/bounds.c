@@ -20,7 +20,7 @@ _Static_assert(__BYTE_ORDER__ == __ORDER_LITTLE_ENDIAN__, "a word's first byte i
 #define CODE(name) TARBUCKET_TOKEN_##name
 
 /* What a byte begins: GAP stands between tokens, and a name goes on with what is from LETTER on. A byte that begins no token is ONE, of code 0. */
-enum { GAP = -1, ONE, LONGER, QUOTE, SIGN, OPENER, CLOSER, LINE_FEED, LETTER, DIGIT };
+enum { GAP = -1, ONE, LONGER, QUOTE, SIGN, LINE_FEED, LETTER, DIGIT };
 
 /* Of a byte: what it begins, and the code of the token that is this byte; with the byte `second` behind it, the code is `longer`. */
 struct row {
@@ -44,12 +44,12 @@ static const struct row ROWS[256] = {
     ['!'] = {LONGER, 0, '=', CODE(NOT_EQUAL)},
     ['<'] = {LONGER, CODE(LESS), '=', CODE(LESS_EQUAL)},
     ['>'] = {LONGER, CODE(GREATER), '=', CODE(GREATER_EQUAL)},
-    ['('] = {OPENER, CODE(LPAREN), 0, 0},
-    [')'] = {CLOSER, CODE(RPAREN), 0, 0},
-    ['['] = {OPENER, CODE(LBRACKET), 0, 0},
-    [']'] = {CLOSER, CODE(RBRACKET), 0, 0},
-    ['{'] = {OPENER, CODE(LBRACE), 0, 0},
-    ['}'] = {CLOSER, CODE(RBRACE), 0, 0},
+    ['('] = {ONE, CODE(LPAREN), 0, 0},
+    [')'] = {ONE, CODE(RPAREN), 0, 0},
+    ['['] = {ONE, CODE(LBRACKET), 0, 0},
+    [']'] = {ONE, CODE(RBRACKET), 0, 0},
+    ['{'] = {ONE, CODE(LBRACE), 0, 0},
+    ['}'] = {ONE, CODE(RBRACE), 0, 0},
     [':'] = {ONE, CODE(COLON), 0, 0},
     [','] = {ONE, CODE(COMMA), 0, 0},
     [';'] = {ONE, CODE(SEMICOLON), 0, 0},
@@ -135,12 +135,12 @@ static bool is_utf8(const uint8_t *src, size_t n) {
 }
 
 /* The scanner: it is at a place of the source, and the next token is written at `out`. Where `counting` is set, spaces count, against the deepest
- * open level, `top`; where brackets are open, `open` by number, line feeds are blanks. */
+ * open level, `top`. */
 struct scanner {
     const uint8_t *src;
     size_t n, at;
     uint32_t *out;
-    size_t top, open;
+    size_t top;
     bool counting;
 };
 
@@ -169,14 +169,9 @@ static void indentation(struct scanner *s) {
     s->top = count;
 }
 
-static bool in_gap(const struct scanner *s) {
-    int next = begins(s, s->at);
-    return next < ONE || (next == LINE_FEED && s->open > 0);
-}
-
 /* Passes over blanks and comments. */
 static void skip_gap(struct scanner *s) {
-    while (in_gap(s)) {
+    while (begins(s, s->at) < ONE) {
         if (s->src[s->at] != '#') {
             s->at++;
         } else {
@@ -241,13 +236,6 @@ static uint32_t take(struct scanner *s) {
     case QUOTE:
         skip_string(s, s->src[start]);
         return CODE(STRING);
-    case OPENER:
-        s->open++;
-        s->counting = false;
-        return row->code;
-    case CLOSER:
-        s->open -= s->open > 0;
-        return row->code;
     case LINE_FEED:
         s->counting = true;
         return CODE(NEWLINE);
@@ -262,7 +250,7 @@ static uint32_t take(struct scanner *s) {
 
 /* Writes all tokens, the closing Dedents and Eof, and gives the place behind them. */
 static uint32_t *scan(const uint8_t *src, size_t n, uint32_t *tokens) {
-    struct scanner s = {src, n, 0, tokens, 0, 0, true};
+    struct scanner s = {src, n, 0, tokens, 0, true};
     for (;;) {
         if (s.counting) indentation(&s);
         skip_gap(&s);

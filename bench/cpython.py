@@ -18,9 +18,6 @@ def main():
     folder, passes = Path(sys.argv[1]), int(sys.argv[2])
     gc.disable()
     sets = {one.name: [path.read_text(encoding="utf8") for path in sorted(one.glob("*.py"))] for one in sorted(folder.iterdir())}
-    trees = [[ast.dump(ast.parse(source)) for source in sets.get(name, [])] for name in ("scripts", "lines")]
-    if all(trees) and trees[0] != trees[1]:
-        sys.exit("the scripts over several lines are other scripts")
     # The sets take turns, so that load falls on all.
     times = [[one_pass(sources) for sources in sets.values()] for _ in range(passes)]
     for name, best in zip(sets, map(min, zip(*times))):

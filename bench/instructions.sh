@@ -59,7 +59,7 @@ if [ "${1-}" = profile ]; then
 fi
 
 python=$(python3 -c 'import sys; print(sys.executable)')
-for set in scripts 1000 65536 korean lines; do
+for set in scripts 1000 65536 korean; do
     folder=target/bench/sources/$set
     rm -rf "$out/sources/$set"
     mkdir -p "$out/sources/$set"

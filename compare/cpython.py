@@ -35,7 +35,7 @@ ROOT = os.path.dirname(HERE)
 BATCH = 1000
 # Departures of 01 from the Reference that CPython's `ast` reads: each run tries first that these are seen as different.
 DEPARTURES = [
-    "not a == b\n", "a-1\n", "-1 .b\n", "- 1.5 + -1.5\n", "a[b,]\n", "for a in b,: c\n", "()\n", "[a, \\\nb]\n", "a\rb\n", "1_0\n", "'\\x41'\n", "'a' 'b'\n",
+    "not a == b\n", "a-1\n", "-1 .b\n", "- 1.5 + -1.5\n", "a[b,]\n", "for a in b,: c\n", "()\n", "(a,\nb)\n", "1_0\n", "'\\x41'\n", "'a' 'b'\n",
     "if a:\n    b\n", "if a:\n\tb\n", "if a:\n  b", "a\n  ", "if a: b\n\nelse: c\n", "class A:\n  def f(): b\n\na\n",
 ]
 

@@ -1,7 +1,7 @@
 """The fixed sample that `rt check python_cases` replays: its data files, `args`, and `stdout` with what CPython says of each source."""
 import os
 
-from python_rows import BINARY, commas, floats, nested, over_lines, systematic, wide
+from python_rows import BINARY, commas, floats, nested, systematic, wide
 from python_sources import Source
 from python_tree import KINDS, NONE, Tree
 
@@ -21,7 +21,6 @@ def chosen():
     files = {"rows": rows(), "nested": [text for text in dict.fromkeys(nested()) if len(text) <= LONGEST][::3], "names": list(wide())[::3]}
     files["floats"] = list(floats())[::5]
     files["commas"] = [text for text in commas() if len(text.encode()) <= LONGEST][::11]
-    files["lines"] = [text for text in over_lines() if len(text.encode()) <= LONGEST][::3]
     known = {text for texts in files.values() for text in texts}
     number, made, file, room, random = 0, len(known), "", 0, 0
     while made < CASES:

@@ -1,7 +1,5 @@
-"""The sources that are not left to chance: every row of two and three operators, each sort of nesting, names in other scripts, spellings of Floats, commas behind one
-E, and brackets over several lines."""
-
-import re
+"""The sources that are not left to chance: every row of two and three operators, each sort of nesting, names in other scripts, spellings of Floats, and commas behind one
+E."""
 
 COMPARISONS = "== != < <= > >=".split()
 TERMS, FACTORS = "+ -".split(), "* / // %".split()
@@ -18,16 +16,6 @@ FLOATS = "0.10 0.1 00.100 1.50 0.0 007.0 100.000 1.0e5 1.0E+05 2.50e-3 0.10E0 90
 
 # One E with a trailing comma (02, change 5), alone and beside parentheses, which make a Tuple of one as well.
 ONE_AND_A_COMMA = ["{} ,", "( {} ) ,", "( {} , ) ,", "( ( {} , ) , )", "( ( {} ) , ) ,"]
-# Line ends inside brackets (02, change 7), with blanks, comments and blank lines. A carriage return ends a line for CPython and is a blank here, which is the same
-# inside brackets, but not in a comment.
-BREAKS = ["\n", "\n\n", "\r\n", "\n   ", "\n\t", "# c\n", " # é)]}'\n \t", "\n\r\n  ", "\r", "\n#\r\n     ", "\t\r\n# (\n\r "]
-# A line end or none stands for each `@`.
-FORMS = [
-    "(@a@)\n", "(@a@,@)\n", "x = (@a@,@b@)\n", "[@]\n", "[@a@,@b@,@]\n", "{@}\n", "{@a@:@b@,@c@:@d@}\n", "{@'é'@,@}\n", "f(@)(@a@,@-1@,@)\n", "a.b[@c@[@0@]@]\n", "(@a@).b\n",
-    "x = (@not@a@or@- 1@<@b@<@2.50@)\n", "def f(@):\n  return [@a@], (@b@,@)\n", "def 한국(@a@,@é@,@): pass; f(@b@)\n", "f(@lambda@a@,@b@:@{@a@:@[@b@]@}@)\n",
-    "if (@a@):\n  [@b@]\nelif f(@a@):\n  if b[@c@]: {@d@}\nelse:\n  e(@f@)\n", "while (@a@and@b@):\n  c[@d@] = (@e@)\n\nf(@)\n", "for a in [@1@,@(@2@,@)@]:\n  b(@a@)\n",
-    "class A:\n  def f(@self@,@a@):\n    return {@a@:@(@1@,@)@,@}\n  def g(@): self.f(@1@)\n", "[@a@,@b@], (@c@) = (@d@,@),\n", "(@(@[@{@a@}@]@)@)\n",
-]
 # What Python takes for a target, a list's and a tuple's members too.
 TARGETS = ["a", "é", "a.b", "a[b]", "f(a,).b", "a[-1]", "[a,]", "[a, b]", "(a)", "((a))", "(a,)", "((a,))", "(a, b)", "(a, (b,),)"]
 
@@ -115,30 +103,12 @@ def in_each_place(one, form):
         yield from (f"{t} = b\n", f"{t}={t}\n", f"한, {t} = c;{t} =b,\n")
 
 
-def over_lines():
-    """Each form with each line end in all gaps, with all of them in turn, with one in each gap alone, and with a carriage return before every line feed."""
-    made = []
-    for i, form in enumerate(FORMS):
-        gaps = form.count("@")
-        turns = [BREAKS[(i + k) % len(BREAKS)] for k in range(gaps)]
-        alone = [[gap if k == at else " " for k in range(gaps)] for at, gap in enumerate(turns)]
-        made += [filled(form, chosen) for chosen in [[gap] * gaps for gap in BREAKS] + [turns] + alone]
-        made.append(re.sub("\r?\n", "\r\n", filled(form, turns)))
-    return list(dict.fromkeys(made))
-
-
-def filled(form, gaps):
-    parts = form.split("@")
-    return parts[0] + "".join(gap + part for gap, part in zip(gaps, parts[1:]))
-
-
 def long_ones():
-    """Sources of 65,536 bytes, the most that 01 takes: lines, a list, a string, a call, a chain, a row of `or`, names in other scripts, Floats, commas behind one E, a list
-    and a call over all lines."""
+    """Sources of 65,536 bytes, the most that 01 takes: lines, a list, a string, a call, a chain, a row of `or`, names in other scripts, Floats, and commas behind one E."""
     for first, part, last in (
         ("", "a = b[-1] + 2.5 # x\n", ""), ("[", "a,", "]"), ("'", "\\n\\d\"é", "'"), ("f(", "(a), ", ")"), ("a", " < a", ""), ("a", " or a", ""),
         ("", "if a:\n  b\nelif c: d; e\nelse:\n  pass\n", ""), ("", "é.한국 = ﬁ(x·1)\n", ""), ("[", "(0.10), 1.50, ", "]"),
-        ("", "é, = a,; (b,),\nreturn c,\n", ""), ("[", "a,\n", "]"), ("f(\r\n", "{a # é(\r\n\t: [\n\n]},\r", ")"),
+        ("", "é, = a,; (b,),\nreturn c,\n", ""),
     ):
         room = 65536 - len((first + last).encode()) - 1
         text = first + part * (room // len(part.encode())) + last

@@ -1,14 +1,13 @@
 """Sources of the subset that document 01 shares with Python: what both read, and read alike but for what python_tree.py says.
 
 Left out are 01's departures from the Reference (docs/DIFFERENCES.md): `not` beside a tighter operator, a sign that touches a Float's digits or an Int with
-something behind it, `()` and `())`, t{..}, number and string forms and escapes of one side only, other steps of indentation,
-carriage returns but before a line feed and inside brackets, spaces alone at the end, a body at the end with no last line feed, keywords of Python alone, targets that
+something behind it, `()`, t{..}, number and string forms and escapes of one side only, other steps of indentation,
+carriage returns, line feeds in brackets, spaces alone at the end, a body at the end with no last line feed, keywords of Python alone, targets that
 Python refuses, empty bodies, blank lines where they are refused, classes of other things than methods, and the forms that 01 has not.
 """
 import random
-import re
 
-from python_rows import BREAKS, COMPARISONS, FACTORS, ONE_AND_A_COMMA, TERMS, WIDE, commas, floats, long_ones, nested, over_lines, systematic, wide
+from python_rows import COMPARISONS, FACTORS, ONE_AND_A_COMMA, TERMS, WIDE, commas, floats, long_ones, nested, systematic, wide
 
 NAMES = (
     "a b c x y i n t t self _ __init__ total node_5 e5 E r1 If classes not_ nota true none None_ print match case type or_else "
@@ -44,15 +43,12 @@ class Source:
         self.depth = self.random.randint(1, 4) if size > 1 else self.random.randint(0, 2)
         self.blanks = self.random.choice([["", ""], [" "], ["", " "], ["", " ", "  ", "\t"]])
         self.busy = self.random.choice([0.15, 0.3, 0.5])
-        self.broken = self.random.choice([0, 0, 0.08, 0.3])
         self.atoms, self.room = 0, 0
         self.body(0, size, self.random.randint(0, 3))
         self.blank_lines(0)
         self.text = "\n".join(self.lines) + "\n"
         if self.random.random() < 0.1 and self.lines[-1] and self.lines[-1][0] not in " \t":
             self.text = self.text[:-1]
-        if self.chance(0.05):
-            self.text = re.sub("\r?\n", "\r\n", self.text)
 
     def chance(self, probability):
         return self.random.random() < probability
@@ -61,11 +57,9 @@ class Source:
         return self.random.choice(things)
 
     def joined(self, tokens):
-        """The tokens with blanks between, and inside brackets with line ends too."""
-        text, opened = tokens[0], 0
+        text = tokens[0]
         for left, right in zip(tokens, tokens[1:]):
-            opened += (left in list("([{")) - (left in list(")]}"))
-            blank = self.pick(BREAKS if opened and self.chance(self.broken) else self.blanks)
+            blank = self.pick(self.blanks)
             text += (blank or " " if must_part(left, right) else blank) + right
         return text
 
@@ -285,7 +279,7 @@ class Source:
 def sources(count, seed):
     """Those of python_rows.py, and then random ones."""
     made = 0
-    for text in [*systematic(), *nested(), *wide(), *floats(), *commas(), *over_lines(), *long_ones()]:
+    for text in [*systematic(), *nested(), *wide(), *floats(), *commas(), *long_ones()]:
         if made < count:
             yield text
             made += 1

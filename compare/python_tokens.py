@@ -1,8 +1,7 @@
 """The tokens of a source as CPython's `tokenize` has them, and where they and the nodes of its `ast` stand, in bytes.
 
-The `tokenize` of Python 3.10 and 3.11 does not know all characters of names, so it is given the source with a letter for each character over 127; and with a space for
-each carriage return, which no release takes alone. `ast` reads the source as it is, and each of its places must be that of a token. A carriage return ends a line for
-it, alone too, so lines are counted as both do.
+The `tokenize` of Python 3.10 and 3.11 does not know all characters of names, so it is given the source with a letter for each character over 127; `ast` reads
+the source as it is, and each of its places must be that of a token.
 """
 import collections
 import io
@@ -10,10 +9,7 @@ import re
 import tokenize
 import unicodedata
 
-LINE_END = re.compile(r"\r\n?|\n")
 MARKS = {tokenize.NEWLINE: "NEWLINE", tokenize.INDENT: "INDENT", tokenize.DEDENT: "DEDENT"}
-
-INSIDE = {tokenize.NL: "line feeds", tokenize.COMMENT: "comments"}
 
 Token = collections.namedtuple("Token", "word start end")
 
@@ -28,18 +24,14 @@ class Tokens:
             self.begins.append(self.begins[-1] + len(line.encode()))
         self.bytes = source.encode()
         self.size = len(self.bytes)
-        self.line_begins = [0] + [end.end() for end in LINE_END.finditer(self.bytes.decode("latin-1"))]
-        self.noted = collections.Counter({"carriage returns": source.count("\r")})
+        self.noted = collections.Counter()
         self.read_tokens(source)
 
     def read_tokens(self, source):
         self.tokens, self.first, self.last, self.closer, self.count = [], {}, {}, {}, 0
         opened = []
-        for token in tokenize.generate_tokens(io.StringIO(re.sub(r"[^\0-\x7f]", "x", source.replace("\r", " "))).readline):
+        for token in tokenize.generate_tokens(io.StringIO(re.sub(r"[^\0-\x7f]", "x", source)).readline):
             self.noted["comments"] += token.type == tokenize.COMMENT
-            if opened and token.type in INSIDE:
-                self.noted[f"{INSIDE[token.type]} inside {self.tokens[opened[-1]].word}"] += 1
-                continue  # "Inside ( [ { a line feed is skipped like a space" (02, change 7)
             if token.type == tokenize.COMMENT or not (token.string or token.type == tokenize.DEDENT):
                 continue  # without text: the end, and a Newline that only CPython implies
             self.count += 1
@@ -55,7 +47,6 @@ class Tokens:
                 opened.append(at)
             if token.type == tokenize.OP and word in ")]}":
                 self.closer[opened.pop()] = at
-        self.noted["sources with a line feed inside brackets"] += any(self.noted[f"line feeds inside {opener}"] for opener in "([{")
 
     def place(self, row, column):
         """The byte of a token's place, which counts characters."""
@@ -65,7 +56,7 @@ class Tokens:
 
     def places(self, node):
         """Start and end of a node of `ast`, whose columns count bytes."""
-        return self.line_begins[node.lineno - 1] + node.col_offset, self.line_begins[node.end_lineno - 1] + node.end_col_offset
+        return self.begins[node.lineno - 1] + node.col_offset, self.begins[node.end_lineno - 1] + node.end_col_offset
 
     def range_of(self, node):
         """The first and the last token of a node, by CPython."""

@@ -5,8 +5,7 @@
 
 The library is the verified one, or the plain reader of compare/ in its place: compare/plain.sh, and --library target/plain/libffi.a. All six numbers of the
 answer must be the same, and of an accepted source the header, all records and the text. It prints how many sources each number answered; at the first
-difference it prints that and ends with status 1. Set aside are sources with a character whose classes tools/reference does not tell. The nodes written before a
-refusal are not compared: the answer does not show them.
+difference it prints that and ends with status 1. The nodes written before a refusal are not compared: the answer does not show them.
 """
 import argparse
 import collections
@@ -18,12 +17,10 @@ from cpython import BATCH, ROOT, build, read_all, read_by_reference, reference
 
 reference()  # from here on modules of tools/reference are found
 import generate  # noqa: E402
-from characters import Untold  # noqa: E402
 from scan import Refusal, scan  # noqa: E402
 
 # What may stand behind a cut.
-ENDS = [b"", b"", b"\n", b"\n", b"\n", b" ", b" # c", b"\r\n", b" # c\n", b"\n\n", b"\nb\n", b"\n  b\n", b")", b" ,\n", b"]\n", b"\n\r-a", b"\n\rnot(a)\n", b"\n\rreturn", b"\n\r(a",
-        b"(\n", b"\n)", b"\n   ]\n", b"[\n\t", b"())\n", b"\n\r( a\n)\n", b"\n\r) a", b" # )\n}"]
+ENDS = [b"", b"", b"\n", b"\n", b"\n", b" ", b" # c", b"\r\n", b" # c\n", b"\n\n", b"\nb\n", b"\n  b\n", b")", b" ,\n", b"]\n", b"\n\r-a", b"\n\rnot(a)\n", b"\n\rreturn", b"\n\r(a"]
 
 
 def cut(rng):
@@ -56,22 +53,17 @@ def sources(count, seed):
 
 
 def compare(arguments):
-    driver, numbers, aside = build(arguments.library), collections.Counter(), 0
+    driver, numbers = build(arguments.library), collections.Counter()
     todo = list(sources(arguments.count, arguments.seed))
     for first in range(0, len(todo), BATCH):
         batch = todo[first:first + BATCH]
-        for source, ours in zip(batch, read_all(driver, batch)):
-            try:
-                theirs, = read_by_reference([source])
-            except Untold:
-                aside += 1
-                continue
+        for source, ours, theirs in zip(batch, read_all(driver, batch), read_by_reference(batch)):
             numbers[theirs[0][0]] += 1
             if ours[0] != theirs[0] or ours[0][0] == 0 and ours != theirs:
                 print(f"{source!r}: {ours} by the library, {theirs} by tools/reference")
                 return 1
     print(f"{len(todo)} sources, {sum(map(len, todo))} bytes, no difference")
-    print(", ".join(f"{number}: {numbers[number]}" for number in sorted(numbers)) + f"; set aside {aside}")
+    print(", ".join(f"{number}: {numbers[number]}" for number in sorted(numbers)))
     return 0
 
 

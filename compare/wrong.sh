@@ -35,27 +35,6 @@ wrong "the target's own span" descent/statement.rs 's/target.span = self.span_fr
 wrong "a blank line let through before else" descent/statement.rs \
     's/if self.kind() == Kind::Else {/if self.kind() == Kind::Newline \&\& self.tokens[self.at + 1].kind == Kind::Else { self.take(); } &/'
 wrong "a carriage return that clears the flag" scan.rs "s/b'.n' | b'.r' | b'#') => return/b'\\\\n' | b'#') => return/"
-wrong "a count of brackets below zero" scan.rs 's/saturating_sub/wrapping_sub/; s/self.open > 0/(self.open as isize) > 0/; s/self.open += 1/self.open = self.open.wrapping_add(1)/'
-wrong "an opener that leaves the flag" scan.rs '/fn passed/,/^    }/s/self.counting = false;//'
-wrong "a closer that clears the flag" scan.rs 's/self.open = self.open.saturating_sub(1)/{ self.counting = false; & }/'
-wrong "only parentheses counted" scan.rs 's/ | Kind::LBracket | Kind::LBrace//; s/ | Kind::RBracket | Kind::RBrace//'
-wrong "braces not counted" scan.rs 's/ | Kind::LBrace//; s/ | Kind::RBrace//'
-wrong "each sort of bracket counted by itself" scan.rs \
-    "s/if self.open > 0 =>/if [Kind::LParen, Kind::LBracket, Kind::LBrace].iter().any(|\&sort| self.tokens.iter().fold(0usize, |count, token| if token.kind == sort { count + 1 } else if token.kind as u8 == sort as u8 + 1 { count.saturating_sub(1) } else { count }) > 0) =>/"
-wrong "a closer of another sort not counted" scan.rs \
-    's/if self.open > 0 =>/if { let mut open = Vec::new(); for token in \&self.tokens { match token.kind { Kind::LParen | Kind::LBracket | Kind::LBrace => open.push(token.kind as u8 + 1), kind if open.last() == Some(\&(kind as u8)) => drop(open.pop()), _ => {} } } !open.is_empty() } =>/'
-wrong "no Newline behind an empty tuple in brackets" scan.rs \
-    's/Kind::RParen | Kind::RBracket | Kind::RBrace =>/Kind::RParen if self.tokens.len() > 3 \&\& matches!(self.tokens[self.tokens.len() - 4..], [Token { kind: Kind::Comma | Kind::LParen | Kind::LBracket | Kind::LBrace, .. }, Token { kind: Kind::LParen, .. }, Token { kind: Kind::RParen, .. }, _]) => {} &/'
-wrong "a line feed inside brackets that sets the flag" scan.rs 's/if self.open > 0 => self.at += 1/if self.open > 0 => { self.at += 1; self.counting = true; }/'
-wrong "spaces behind a line feed inside brackets that set a level" scan.rs \
-    's/if self.open > 0 => self.at += 1/if self.open > 0 => { self.at += 1; let spaces = bytes[self.at..].iter().take_while(|\&\&b| b == 32).count(); if spaces == self.top + 2 { self.push(Kind::Indent, self.at, self.at + spaces, 0); self.top = spaces; } }/'
-wrong "a Newline for a blank line inside brackets" scan.rs "s/if self.open > 0 =>/if self.open > 0 \&\& bytes[self.at - 1] != b'\\\\n' =>/"
-wrong "a comment inside brackets that goes on behind its line feed" scan.rs "s/take_while(|&&b| b != b'.n')/take_while(|\&\&b| b != b'\\\\n' || self.open > 0)/"
-wrong "a Newline behind a comment inside brackets" scan.rs "s/b'#' => self.at += \(.*\),\$/b'#' => { self.at += \1; if self.open > 0 { return; } }/"
-wrong "a line feed skipped behind a closer" scan.rs "s/if self.open > 0 =>/if self.open > 0 || matches!(self.tokens.last(), Some(Token { kind: Kind::RBracket, .. })) =>/"
-wrong "no Dedents at the end inside brackets" scan.rs 's/0..self.top \/ 2/0..if self.open > 0 { 0 } else { self.top \/ 2 }/'
-wrong "trailing spaces counted at the end inside brackets" scan.rs \
-    's/            if rest.is_empty() {/& if self.open > 0 \&\& self.src.ends_with("\\n ") { return Err(Refused { number: 7, place: self.src.len() as u32 - 1 }); }/'
 wrong "a class that ends one character early" classes.rs 's/e01ef/e01ee/'
 wrong "the standard library's letters at the head of a name" name.rs 's/within(&BEGIN, c)/c.is_alphabetic()/'
 wrong "a name cut at the first character beyond ASCII" name.rs 's/|c| !continues(c)/|c: char| !c.is_ascii() || !continues(c)/'

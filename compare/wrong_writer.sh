@@ -65,7 +65,6 @@ wrong "a comma behind every tuple" expression.rs 's/if alone { "," } else { "" }
 wrong "the empty tuple as the Reference has it" expression.rs 's/"())"/"()"/'
 wrong "the empty tuple bare" expression.rs 's/ if list != NONE => self.several/ => self.first(\&[Members(list)]), [kind::TUPLE, _, _, _, list, ..] => self.several/'
 wrong "no space behind a comma" expression.rs 's/", "/","/'
-wrong "a line feed behind a list's opener" expression.rs 's/kind::LIST => self.first(&\[Just("\[")/kind::LIST => self.first(\&[Just("[\\n")/'
 wrong "no space behind a pair's colon" expression.rs 's/Part(p, Rule::E), Just(": ")/Part(p, Rule::E), Just(":")/'
 wrong "a space before a lambda's colon" expression.rs 's/if p == NONE { "" } else { " " }/" "/'
 wrong "no space behind a sign" expression.rs 's/"- "/"-"/'

@@ -35,12 +35,6 @@ printf 'def f(): return 1,\n' >"$scripts/comma_returned"
 printf 'a, = b,\n' >"$scripts/comma_assigned"
 printf '(a),; (a,),; [a,], f(a,)\n' >"$scripts/commas"
 printf '1,,' >"$scripts/two_commas"
-printf 'x = [1, # one\n\t2,\n\n   3]\nif (a\n    and b):\n  f(\nc)\n' >"$scripts/lines"
-printf 'x[\n' >"$scripts/cut_index"
-printf 'if a:\n  f(b,\n' >"$scripts/open_in_block"
-printf 'x = [1, 2\ny = 3\n' >"$scripts/forgotten"
-printf '[()),\na]' >"$scripts/behind_tuple"
-printf '()\n' >"$scripts/parentheses_line"
 printf 'x =' >"$scripts/cut"
 printf 'x =\n' >"$scripts/missing"
 printf 'class A:\n' >"$scripts/cut_class"
@@ -119,16 +113,14 @@ for script in "$scripts"/*; do
     count=$((count + 1))
 done
 # 0.1's bits, and as it is written: the node's span has parentheses in the one, and is the whole Assign's in the other; a Tuple of one, whose span has the
-# comma, and as a target the whole Assign's; a list and an If over several lines; a token that does not fit, a script that ends too early, and a line or block that
-# lacks an expression at its end
+# comma, and as a target the whole Assign's; a token that does not fit, a script that ends too early, and a line or block that lacks an expression at its end
 for line in 'spelling:0 Float 0 6 3fb999999999999a 0\.10' 'spelled_target:0 Float 0 10 3fb999999999999a 0\.10' \
     'comma:1 Tuple 0 2' 'comma:0 Int 0 1 1' 'comma_returned:1 Tuple 16 18' 'comma_assigned:1 Tuple 0 7' 'comma_assigned:3 Tuple 5 7' \
-    'lines:4 List 4 24' 'lines:13 If 25 51' 'forgotten:no 14 10' 'behind_tuple:no 14 5' 'parentheses_line:no 14 2' 'cut_index:no 15 3' 'open_in_block:no 14 13' \
     'two_commas:no 14 2' 'signed:no 14 1' 'parentheses:no 15 2' 'cut:no 15 3' 'cut_class:no 15 9' 'missing:no 16 3' 'missing_in_block:no 16 11'; do
     grep -qx " *${line#*:}" "$work/${line%%:*}.walk_c" || { echo "${line%%:*}: no line ${line#*:}" >&2 && exit 1; }
 done
-# standard texts, a bar for each line feed: a body of its own lines, a list on one, tuples bare, a Float's spelling, a string's quotes
-for line in 'lines:x = [1, 2, 3]|if a and b:|  f(c)|' 'branches:if a:|  b|elif c:|  d|else:|  e|' 'commas:a,|(a,),|[a], f(a)|' 'comma_assigned:a, = b,|' 'spelled_target:0.10 = 2.5|' 'empty:' 'tuple:())|' \
+# standard texts, a bar for each line feed: a body of its own lines, tuples bare, a Float's spelling, a string's quotes
+for line in 'branches:if a:|  b|elif c:|  d|else:|  e|' 'commas:a,|(a,),|[a], f(a)|' 'comma_assigned:a, = b,|' 'spelled_target:0.10 = 2.5|' 'empty:' 'tuple:())|' \
     'values:x = {"a": 1.5, "b\n": t{1, 2}, 3: lambda a, b: - a * b}|y.z(1)[0], None|' 'spaces_only:'; do
     text=$(tr '\n' '|' <"$work/${line%%:*}.write_c")
     [ "$text" = "${line#*:}" ] || { echo "${line%%:*} is written $text" >&2 && exit 1; }

@@ -80,12 +80,7 @@ enum {
     TARBUCKET_TOKEN_WORDS = 3
 };
 
-/* The codes of the tokens.
- *
- * Brackets of all three sorts are counted together: an opener adds one, a closer takes one away, but nothing from 0. Newline, Indent and Dedent come only
- * where the count is 0, save the Dedents at n. Where it is above 0, a line feed is passed over like a space, and the spaces or tabs behind it are no
- * indentation. The empty tuple ()) has a closer more than openers: behind `[()),` the count is 0, and a line feed is a Newline, though the list goes on.
- * Earlier libraries of version 2 have a Newline for every line feed, which the version does not tell. */
+/* The codes of the tokens. */
 enum {
     TARBUCKET_TOKEN_IF = 1,
     TARBUCKET_TOKEN_ELIF = 2,
@@ -134,7 +129,7 @@ enum {
     TARBUCKET_TOKEN_DOT = 45,           /* .  */
     TARBUCKET_TOKEN_INDENT = 46,        /* spans the line's spaces */
     TARBUCKET_TOKEN_DEDENT = 47,        /* spans the line's spaces; empty at n where the source ends */
-    TARBUCKET_TOKEN_NEWLINE = 48,       /* a line feed with no bracket open */
+    TARBUCKET_TOKEN_NEWLINE = 48,       /* a line feed */
     TARBUCKET_TOKEN_EOF = 49            /* empty, at n */
 };
 
@@ -271,13 +266,12 @@ enum {
 /* Reads a source, as tarbucket_parse_source does, and writes its standard text to the start of `out`. Writes the seven words of the answer and returns the
  * first, the number.
  *
- * Scripts with the same tree, places aside, with names, strings and the spellings of Floats compared by bytes, have the same text. A block is indented by two
- * spaces, a statement has a line, with all of its brackets, and each line ends with a line feed. A space stands around a binary operator, around = and behind
- * a unary operator; behind the comma between members, behind the colon of a pair or lambda; behind if, elif, while, for, in, return, def, class and lambda
- * where no colon follows, and before in. There is no other blank, and no comment. Parentheses stand only where the tree needs them. A tuple that is a whole
- * statement, a returned value or a side of = is bare; a tuple of one ends with a comma, the empty one is ()). Floats are as they were spelled; Ints have the
- * fewest digits, with a minus where negative. Strings stand in double quotes, with backslash, double quote, line feed, tab and carriage return escaped. A
- * chain of comparisons is a chain.
+ * Scripts with the same tree, places aside, with names, strings and the spellings of Floats compared by bytes, have the same text. A block is indented by two spaces, a statement has a line, and each line ends with a line
+ * feed. A space stands around a binary operator, around = and behind a unary operator; behind the comma between members, behind the colon of a pair or
+ * lambda; behind if, elif, while, for, in, return, def, class and lambda where no colon follows, and before in. There is no other blank, and no comment.
+ * Parentheses stand only where the tree needs them. A tuple that is a whole statement, a returned value or a side of = is bare; a tuple of one ends with a
+ * comma, the empty one is ()). Floats are as they were spelled; Ints have the fewest digits, with a minus where negative. Strings stand in double quotes, with
+ * backslash, double quote, line feed, tab and carriage return escaped. A chain of comparisons is a chain.
  * The text, read with room for its areas, is accepted with the same nodes in the same order, places aside, and its own standard text is itself.
  *
  * Each length counts the elements behind its pointer. No pointer may be null, also where its length is 0; the slices must not overlap.

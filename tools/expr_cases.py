@@ -13,7 +13,6 @@ import sys
 
 sys.dont_write_bytecode = True
 sys.path.insert(0, os.path.join(os.path.dirname(os.path.abspath(__file__)), "reference"))
-import bracket_cases  # noqa: E402
 import comma_cases  # noqa: E402
 import cut_cases  # noqa: E402
 import float_cases  # noqa: E402
@@ -73,12 +72,7 @@ t{  t{,}  t{a  t{a,  t{a b}  t{a: b}  t{a]
 lambda  lambda a  lambda a,  lambda a b: a  lambda ,: a  lambda 1: a  lambda a,,: a  lambda:)  lambda a:  lambda a: lambda  lambda a = b: a
 f(  f(,)  f(a  f(a,  f(a b)  f(a,,)  f(a]  f(a = b)  a.  a.1  a.(b)  a.if  a..b  a[  a[]  a[a  a[a,]  a[a, b]  a[a)  a[a:b]
 a, b or  a, [  a, b, (  a, b.  a, not  a().  a[b](
-a +\nb  lambda:\na  not\na  (a\nb)  [a\n,\n,b]  {a:\n}  x[\n]  f(\n,)  (a\n]  [()),\na]  [())\n]  (())\n)  f((\n)),\na)
-"""
-
-# Over several lines; and line feeds behind an expression that is complete.
-LINES = r"""
-[\n\x20\x20a]  (a\n)  f(\na)  {a:\nb}  (\n))  (()\n))  [a,\n())]  [[()),\na], b]  (a\n)(b\n)  (a\n)\n(b\n)  f(a\n),\n  [a][\nb]  \r(\x20\x20\na)  (a #)\n)  ['a\n',\n'b']  x[\n(\na,\nb\n)\n]  a + (\nb)\n+ c
+[\n\x20\x20a]  (a\n)  f(\na)  {a:\nb}  a +\nb  lambda:\na  not\na
 """
 
 # Names in any script: as operands, attributes, parameters; `t` with a character more is no `t`.
@@ -125,15 +119,13 @@ def generated():
 
 
 def cut():
-    """What a line feed cuts, or the end behind one inside brackets, with number and place by hand: 16 where only an expression or operand could stand."""
-    for number, beginnings in ((16, cut_cases.only_in_t()), (14, cut_cases.beginnings(cut_cases.ALSO_IN_T))):
+    """What a line feed cuts, with number and place by hand: 16 where only an expression or operand could stand."""
+    for number, beginnings in ((16, cut_cases.only_in_t()), (14, cut_cases.also_in_t())):
         yield from (((text + "\n").encode(), number, len(text)) for text in beginnings)
-    for number, block in ((16, cut_cases.ONLY_IN_T_OPEN), (14, cut_cases.ALSO_IN_T_OPEN)):
-        yield from (((text + "\n").encode(), number, len(text) + 1) for text in cut_cases.beginnings(block))
 
 
 def sources():
-    blocks = (LITERALS, FORMS, OPERATORS, COMMAS, REFUSED, LINES, NAMES, SCANNER)
+    blocks = (LITERALS, FORMS, OPERATORS, COMMAS, REFUSED, NAMES, SCANNER)
     yield b""
     for block in blocks:
         yield from listed(block)
@@ -142,7 +134,6 @@ def sources():
     yield from float_cases.sources(float_cases.EXPRESSIONS)
     yield from (source for source, _, _ in cut())
     yield from comma_cases.sources([*comma_cases.EXPRESSIONS, *comma_cases.REFUSED])
-    yield from bracket_cases.mixed(bracket_cases.EXPRESSIONS, 5)
 
 
 def is_utf8(source):

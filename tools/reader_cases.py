@@ -12,7 +12,6 @@ import sys
 
 import reader_sources as sources
 import check_answers
-import check_brackets
 import check_commas
 import cut_cases
 import name_cases
@@ -134,7 +133,6 @@ def lists():
     yield "names", with_marks(sources.names())
     yield "floats", with_marks(sources.floats())
     yield "commas", with_marks(sources.commas())
-    yield "brackets", with_marks(sources.brackets())
     yield "limits", with_marks([source for source, _ in [*sources.nested(), *sources.mixed()]]) + with_marks(sources.longest(), ["000", "999"]) + at_the_limits()
     yield "generated", with_marks([*sources.generated(140, 11), *sources.soups(60, 12)])
     yield "damaged", with_marks(sources.damaged(300, 13))
@@ -153,16 +151,12 @@ def at_the_limits():
 def hold_to_the_paper():
     """What document 01 says itself: number and place of its scripts, the empty script's counts, the tree of `a<b<c` word by word; and what was counted or
     told by hand from the sentences of 01 and 02: openings and nodes written of some scripts, who is accepted, who is too deep, which script has which kind,
-    span, r and s of each Float of the scripts of float_cases, N, kinds and spans of those of comma_cases, tokens, number and place of those of bracket_cases, number and place of
-    those of name_cases and cut_cases."""
+    span, r and s of each Float of the scripts of float_cases, N, kinds and spans of those of comma_cases, number and place of those of name_cases and cut_cases."""
     check_answers.scripts_of_01()
     check_answers.counted()
     check_answers.floats()
     check_commas.by_hand()
     check_commas.longest()
-    check_brackets.tokens_by_hand()
-    check_brackets.by_hand()
-    check_brackets.longest()
     for source, number in [*sources.nested(), *sources.mixed()]:
         assert expected(source, "000")[0].number == number, source
     for number, (source, marks) in enumerate(SMALLEST_SLICES, 1):

@@ -5,7 +5,6 @@ import sys
 
 sys.dont_write_bytecode = True
 sys.path.insert(0, os.path.join(os.path.dirname(os.path.abspath(__file__)), "reference"))
-import bracket_cases  # noqa: E402
 import comma_cases  # noqa: E402
 import cut_cases  # noqa: E402
 import expr_cases  # noqa: E402
@@ -93,17 +92,11 @@ def commas():
     return comma_cases.sources(comma_cases.STATEMENTS)
 
 
-def brackets():
-    """Line feeds inside brackets, and where they are not inside. Tokens, number or place of most are by hand, of the others the tokens on one line."""
-    return [*dict.fromkeys(bracket_cases.sources()), *(pieces for pieces, *_ in bracket_cases.LONGEST)]
-
-
 # Good scripts that are cut at every byte: written as those above.
 CUT = """
 if a:/__b/elif c:/__d/else:/__e/|class A:/__def f(a, b,):/____a/b/|for a in [b, c,]:/__d; e/f = g/|def f(a, b,):/__return a, b/|if a: 'x'/elif 'y': 'z'/else: 'w'|while not a: b|a, b, = c,
 a < b < c = d|a = b; return c; d|if {a: b}: c|for a in lambda: b: c|if a:/__if b:/____c/__else: d/|class A:/__def f(): a/__def g(): b/|while a:/__break/__continue/
 {a: b, c: d,}|{{a}: {b: {c, d}}}|t{a, b,}|a.b().c[d]|a or b and c < d + e * -f|lambda a, b,: a + b|f(lambda a: a, b)|[[], [a], [[b, c], d]]|()) + a|(a, b)[0]
-x = {/__'a': [b, # (/_c],/}/|if f(/a,/):/__t{(/))/}/|def f(/a,/b): (c,/_[])
 """
 CUT_WIDE = ["\ud55c\uad6d = \xe9(\ufb01, [1.50]) # \u20ac\n", "x = 'a\\n\xe9'\r\n- y // 2.5\n"]
 
@@ -121,8 +114,8 @@ def prefixes():
 
 
 def scanner():
-    """Every fourth of those that scan_cases has by hand, short ones, but the names below and the brackets above."""
-    named = {*name_cases.sources(), *bracket_cases.sources()}
+    """Every fourth of those that scan_cases has by hand, short ones, but the names below."""
+    named = set(name_cases.sources())
     return [source for source in [s for s in token_cases.picked() if s not in named][::4] if len(source) < 60]
 
 
@@ -145,14 +138,14 @@ def names():
 
 
 def order():
-    """The earliest in the source of 6 to 11, each before and behind the others; then 13 and 14, by the earliest token. A tab behind 65 openers is a blank."""
+    """The earliest in the source of 6 to 11, each before and behind the others; then 13 and 14, by the earliest token."""
     causes = [b"\n\t", b"\n   a", b"\n  a\n a", b" $", b" 9223372036854775808", b" 1.0e24", b" \xe2\x82\xac", b" )"]
     for first in causes:
         for second in causes:
             if first != second:
                 yield b"a" + first + second
     deep = b"(" * 65
-    yield from [b") " + deep, deep + b")", deep + b" $", deep + b"\n\t", deep + b")" * 65 + b"\n\t", b"$" + deep, deep[:64] + b")", deep[:64] + b"]", b"a b " + deep]
+    yield from [b") " + deep, deep + b")", deep + b" $", deep + b"\n\t", b"$" + deep, deep[:64] + b")", deep[:64] + b"]", b"a b " + deep]
 
 
 def blocks(depth, inner, indent=b"  "):

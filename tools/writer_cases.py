@@ -40,12 +40,11 @@ REFUSED = [b"\xff", b"'a' \xc3", b"\t", b"if a:\n\tb", b" a", b"  a\n ", b"if a:
 UNLENT = [([(b"n", LONGEST + 1)], "000"), ([(b"n", LONGEST + 1)], "..."), (b"a", "-00"), (b"'x'\n", "0-0"), (b"a\n", "00-"), (b"if a:\n  ", "-00"), (b"if a:\n  ", "0-0"), (b"if a:\n  ", "00-"),
           (b"if a:\n  ", "..."), (b"\xff", "00-"), (b"()", "0--"), (b"", "-00"), (b"", "00-")]
 
-# Source and text by hand, where change 6 and what 01 says of its grammar could be read in two ways; and over several lines, which a text has not.
+# Source and text by hand, where change 6 and what 01 says of its grammar could be read in two ways.
 DOCUMENT = [("a - -1", "a - -1\n"), ("- 1", "- 1\n"), ("-1", "-1\n"), ("-1.x", "-1.x\n"), ("1.e5", "1.e5\n"), ("not a == b", "not a == b\n"), ("a == not b", "a == not b\n"),
             ("(lambda: 1)()", "(lambda: 1)()\n"), ("lambda: 1, 2", "lambda: 1, 2\n"), ("lambda: (1, 2)", "lambda: (1, 2)\n"), ("x = 1,", "x = 1,\n"), ("((a,),)", "(a,),\n"), ("[())]", "[())]\n"),
             ("t{}", "t{}\n"), ("(a < b) < c", "(a < b) < c\n"), ("a < b < c and d", "a < b < c and d\n"), ("a and (b and c)", "a and (b and c)\n"),
-            ("x = 'a\\'b\"\\n\\q'", 'x = "a\'b\\"\\n\\\\q"\n'), ("007", "7\n"), ("+5", "5\n"), ("if a:b;c", "if a:\n  b\n  c\n"), ("", ""),
-            ("[a,\n  b]", "[a, b]\n"), ("f(\n  a, # c\n)", "f(a)\n"), ("(\n))", "())\n"), ("x = {\n  'a': 1,\n}\n", 'x = {"a": 1}\n')]
+            ("x = 'a\\'b\"\\n\\q'", 'x = "a\'b\\"\\n\\\\q"\n'), ("007", "7\n"), ("+5", "5\n"), ("if a:b;c", "if a:\n  b\n  c\n"), ("", "")]
 
 
 def seven(given, done):
@@ -85,7 +84,7 @@ def by_hand():
 
 
 def every_room():
-    few = [b"", b"#c", b"a", b"a=b", b"a<b<c", b"if a:b;c", b"x='\t'", b"(1,)", b"())", b"a-(b-c)", b"class A:\n  def f():a\n", b"f(\n a,\n)", b"if a:\n  ", b"b\nclass A:\n  def f():\n    "]
+    few = [b"", b"#c", b"a", b"a=b", b"a<b<c", b"if a:b;c", b"x='\t'", b"(1,)", b"())", b"a-(b-c)", b"class A:\n  def f():a\n", b"if a:\n  ", b"b\nclass A:\n  def f():\n    "]
     return [case for source in few for case in roomy([source] * len(ALL), ALL)]
 
 
@@ -122,7 +121,7 @@ def lists():
     yield "empty", list(roomy([source.encode() for source in write_cases.EMPTY], [0, -40])) + list(roomy([source.encode() for source, _ in write_cases.LIKE_EMPTY]))
     yield "refused", list(refused())
     yield "forms", list(roomy(list(dict.fromkeys(write_forms.pairs()))[::11]))
-    yield "nested", list(roomy([generate.nested(sort, depth) for sort in generate.NESTED for depth in (62, 63)] + generate.nested_over_lines(63)))
+    yield "nested", list(roomy([generate.nested(sort, depth) for sort in generate.NESTED for depth in (62, 63)]))
     yield "generated", list(roomy(generated()))
     yield "limits", list(at_the_limit())
 

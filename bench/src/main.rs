@@ -36,18 +36,17 @@ impl Set {
     }
 }
 
-fn sets() -> [Set; 5] {
+fn sets() -> [Set; 4] {
     sets_for(&SIDES)
 }
 
-fn sets_for(sides: &'static [Side]) -> [Set; 5] {
+fn sets_for(sides: &'static [Side]) -> [Set; 4] {
     let set = |name, passes, sources| Set { name, passes, sides, clock: clock::thread, sources };
     [
         set("scripts", 150, scripts::scripts()),
         set("1000", 300, (0..64).map(|first| scripts::sized(1_000, first)).collect()),
         set("65536", 300, vec![scripts::sized(65_536, 0)]),
         set("korean", 150, scripts::korean()),
-        set("lines", 150, scripts::lines()),
     ]
 }
 
@@ -223,7 +222,7 @@ fn print_set(row: &Row) {
 }
 
 fn print_goals(rows: &[Row]) {
-    let [scripts, small, large, ..] = rows else { panic!("five sets") };
+    let [scripts, small, large, _] = rows else { panic!("four sets") };
     let per_byte = |row: &Row| row.sides[0] / row.set.bytes() as f64;
     let met = |yes: bool| if yes { "met" } else { "missed" };
     println!();

@@ -40,30 +40,6 @@ pub fn korean() -> Vec<Vec<u8>> {
     (0..SCRIPTS).map(|number| renamed(&String::from_utf8(script(number)).expect("ASCII"))).collect()
 }
 
-/// The same scripts with their dictionaries over several lines.
-pub fn lines() -> Vec<Vec<u8>> {
-    (0..SCRIPTS).map(|number| spread(&String::from_utf8(script(number)).expect("ASCII"))).collect()
-}
-
-/// A script with a line for each pair of a dictionary. Its strings have no brackets and no commas.
-fn spread(script: &str) -> Vec<u8> {
-    let (mut out, mut open) = (String::new(), Vec::new());
-    for c in script.chars() {
-        match c {
-            '(' | '[' | '{' => open.push(c),
-            ')' | ']' | '}' => _ = open.pop(),
-            _ => {}
-        }
-        match c {
-            '{' if open == ['{'] => out += "{\n  ",
-            '}' if open.is_empty() => out += ",\n}",
-            ' ' if open == ['{'] && out.ends_with(',') => out += "\n  ",
-            _ => out.push(c),
-        }
-    }
-    out.into_bytes()
-}
-
 /// Every name of the scripts, and what it is in Korean.
 const NAMES: [(&str, &str); 18] = [
     ("graph", "그래프"),
@@ -190,7 +166,7 @@ pub fn sized(size: usize, first: u64) -> Vec<u8> {
     out
 }
 
-/// A source with every token, with line feeds in brackets, and with characters that are not ASCII, in names too. It is checked, and not timed.
+/// A source with every token, and with characters that are not ASCII, in names too. It is checked, and not timed.
 pub fn every_token() -> Vec<u8> {
     let lines = [
         "# é, €, 😀\n",
@@ -203,10 +179,7 @@ pub fn every_token() -> Vec<u8> {
         "      # as deep as before\n",
         "\n",
         "    for each in t{1, -2, +3, - 4}:\n",
-        "      x = [continued * 2 / 3, # é\n",
-        "\n",
-        "\ta // 4 % 5\n",
-        ", {\"é\": '\\'', \"\\\"€\\\\\": ''}]\n",
+        "      x = [continued * 2 / 3, a // 4 % 5, {\"é\": '\\'', \"\\\"€\\\\\": ''}]\n",
         "  def down(self): return self.at >= 4.25E+2\n",
         "y = lambda u, v: u\t+ v - 0.5e1.e2; z = 1.e5\n",
         "역_4, é = ifα.℘·1(𐐀), e\u{301}; classé=-é\n",

@@ -4,8 +4,7 @@
 //! `parse` reads a script to a tree; `layout` puts the tree into words; `read` asks the questions 1 to 14, without 12 (gone by
 //! 02's change 1), and fills the three areas. The descent and the ordered trial are two readings of the same tokens with no
 //! code in common. `utf8` is the check that 02's change 2 asks for, `cut` tells 15 and 16 of change 4 from 14; change 5 is in the two
-//! functions `t`; `writer` is change 6, over the words of the tree, and `alike` what its text must be read back to; change 7 is the
-//! count of open brackets in `scan`.
+//! functions `t`; `writer` is change 6, over the words of the tree, and `alike` what its text must be read back to.
 
 pub mod alike;
 pub mod classes;

@@ -6,17 +6,16 @@ use crate::token::{Kind, Token};
 use crate::Refused;
 
 pub fn scan(src: &str) -> Result<Vec<Token>, Refused> {
-    let scanner = Scanner { src, at: 0, counting: true, top: 0, open: 0, tokens: Vec::with_capacity(src.len() / 3 + 4) };
+    let scanner = Scanner { src, at: 0, counting: true, top: 0, tokens: Vec::with_capacity(src.len() / 3 + 4) };
     scanner.run()
 }
 
-/// `counting` is 01's flag, `top` the top of the levels 0, 2, 4 ..., `open` how many brackets are open, of all three sorts together.
+/// `counting` is 01's flag, `top` the top of the levels 0, 2, 4 ...
 struct Scanner<'a> {
     src: &'a str,
     at: usize,
     counting: bool,
     top: usize,
-    open: usize,
     tokens: Vec<Token>,
 }
 
@@ -37,7 +36,9 @@ impl Scanner<'_> {
             let (kind, length, value) = match_token(rest).map_err(|number| Refused { number, place: self.at as u32 })?;
             self.push(kind, self.at, self.at + length, value);
             self.at += length;
-            self.passed(kind);
+            if kind == Kind::Newline {
+                self.counting = true;
+            }
         }
         let end = self.src.len();
         for _ in 0..self.top / 2 {
@@ -45,19 +46,6 @@ impl Scanner<'_> {
         }
         self.push(Kind::Eof, end, end, 0);
         Ok(self.tokens)
-    }
-
-    /// What a token does to the flag and to the count: "a closer at zero leaves zero, an opener clears the flag" (02, change 7).
-    fn passed(&mut self, kind: Kind) {
-        match kind {
-            Kind::Newline => self.counting = true,
-            Kind::LParen | Kind::LBracket | Kind::LBrace => {
-                self.counting = false;
-                self.open += 1;
-            }
-            Kind::RParen | Kind::RBracket | Kind::RBrace => self.open = self.open.saturating_sub(1),
-            _ => {}
-        }
     }
 
     fn push(&mut self, kind: Kind, start: usize, end: usize, value: u64) {
@@ -91,13 +79,12 @@ impl Scanner<'_> {
         Ok(())
     }
 
-    /// Passes over space, tab, carriage return, and `#` up to a line feed; inside brackets over the line feed too.
+    /// Passes over space, tab, carriage return, and `#` up to a line feed.
     fn skip(&mut self) {
         let bytes = self.src.as_bytes();
         while let Some(byte) = bytes.get(self.at) {
             match byte {
                 b' ' | b'\t' | b'\r' => self.at += 1,
-                b'\n' if self.open > 0 => self.at += 1,
                 b'#' => self.at += bytes[self.at..].iter().take_while(|&&b| b != b'\n').count(),
                 _ => return,
             }

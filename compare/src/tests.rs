@@ -1,7 +1,5 @@
-//! 01's "Scripts and their outcome", 02's names, Floats, cut scripts, trailing commas, standard text and lists over several lines, read both ways; the
-//! classes of characters.
+//! 01's "Scripts and their outcome", 02's names, Floats, cut scripts, trailing commas and standard text, read both ways; the classes of characters.
 
-mod brackets;
 mod commas;
 mod cut;
 mod written;

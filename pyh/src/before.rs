@@ -4,15 +4,13 @@ use std::ops::Range;
 
 #[derive(Default)]
 pub struct Before {
-    /// The brackets that are open, the innermost last.
+    /// The brackets that are open, the innermost last. A line feed outside of strings closes all.
     pub open: Vec<Bracket>,
     /// The last string.
     pub string: Option<Range<usize>>,
-    /// The last token but for line feeds, and the first one of its line, which goes on through the line feeds in brackets.
+    /// The last token but for line feeds, and the first one of its line.
     pub last: Range<usize>,
     pub first: Range<usize>,
-    /// Nothing stands before in the line.
-    pub at_line_start: bool,
     /// The colon in that line which opens a block.
     pub colon: Option<usize>,
     /// The last token completes an empty tuple.
@@ -30,25 +28,33 @@ pub struct Bracket {
     pub empty: bool,
 }
 
+impl Bracket {
+    /// What is said where the line ends inside of it.
+    pub fn on_one_line(&self) -> String {
+        format!("all up to the closing `{}` must stand on this line", self.closer)
+    }
+}
+
 /// The words that open a block, and the others that are no value.
 const HEADERS: [&[u8]; 7] = [b"if", b"elif", b"else", b"while", b"for", b"def", b"class"];
 const OTHERS: [&[u8]; 9] = [b"in", b"return", b"and", b"or", b"not", b"break", b"continue", b"pass", b"lambda"];
 
 /// What stands before the end of these bytes. Up to there all tokens fit, or else only the last string is told.
 pub fn before(src: &[u8]) -> Before {
-    let mut found = Before { at_line_start: true, ..Before::default() };
+    let mut found = Before::default();
+    let mut is_first = true;
     for at in tokens(src) {
         if src[at.start] == b'\n' {
             found.open.clear();
-            found.at_line_start = true;
+            is_first = true;
             continue;
         }
-        if found.at_line_start {
+        if is_first {
             (found.first, found.colon, found.lambdas) = (at.clone(), None, 0);
         }
-        let behind_value = !found.at_line_start && is_value(&src[found.last.clone()]);
+        let behind_value = !is_first && is_value(&src[found.last.clone()]);
         found.take(src, at, behind_value);
-        found.at_line_start = false;
+        is_first = false;
     }
     found
 }
@@ -57,7 +63,8 @@ pub fn before(src: &[u8]) -> Before {
 pub fn closing(src: &[u8], place: usize) -> Option<usize> {
     let mut found = before(&src[..place]);
     let depth = found.open.len();
-    for at in tokens(src).skip_while(|at| at.start < place) {
+    for at in tokens(&src[place..]) {
+        let at = place + at.start..place + at.end;
         let innermost = found.open.last()?;
         match src[at.start] {
             b'\n' => return None,

@@ -49,12 +49,6 @@ dot that is not read, 13 nested too deeply, 14 does not fit the grammar, 15 the
 script ends too early, 16 a value is missing at the end of a line, or where the
 script ends within an indented block; no script gets 12
 
-In brackets a line break counts for nothing, as a space does; but the empty
-tuple `())` has one closer too many, so behind `[()),` it counts. Where a
-closing bracket was forgotten, the lines behind it belong to the brackets, and
-the script is refused in one of them or at its end; the sentence says which
-bracket is still open, and where.
-
 In a name, bytes that are no UTF-8 are shown as in \\xE9, what no one sees as in
 \\n or \\u{1b}, a backslash as \\\\. In json the name is itself; where it is no
 UTF-8, file_hex has all its bytes.

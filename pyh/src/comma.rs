@@ -1,12 +1,12 @@
 //! The sentences for a comma that does not fit.
 use crate::before::closing;
 use crate::misfit::Misfit;
-use crate::source::tokens;
+use crate::source::{line_start, tokens};
 
 impl Misfit<'_> {
     /// How the sentence on a comma goes on, if more can be said.
     pub fn comma(&self) -> Option<&'static str> {
-        let is_first = self.before.at_line_start;
+        let is_first = self.before.last.end <= line_start(self.src, self.place);
         let hint = match &self.src[self.before.last.clone()] {
             b"" => ": a value is missing before it.",
             _ if is_first && self.wants_value() => ": a line does not go on from the one above, so a value is missing before it.",

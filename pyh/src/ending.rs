@@ -1,7 +1,11 @@
 //! The sentences for 15 and 16, where a script or a line ends too early, and for 14 where the script ends within an indented block.
+use crate::excerpt::locate;
 use crate::misfit::Misfit;
 use crate::sentence::quoted;
 use crate::source::line_number;
+
+/// At most so many brackets are named.
+const NAMED: usize = 4;
 
 /// The script ends, and what it began is not complete.
 pub fn cut(src: &[u8]) -> String {
@@ -34,7 +38,7 @@ impl Misfit<'_> {
     fn on_this_line(&self) -> String {
         let end = self.before.last.end;
         match self.before.open.last() {
-            Some(bracket) => format!(": {}", self.no_longer_spans(bracket)),
+            Some(bracket) => format!(": {}", bracket.on_one_line()),
             None if self.last() == "`return`" && self.helps(end..end, b" None") => ": where there is none, write `return None`".to_string(),
             None => String::new(),
         }
@@ -72,6 +76,21 @@ impl Misfit<'_> {
 
     fn wanted(&self, what: &str) -> String {
         format!("{what} after {}", self.last())
+    }
+
+    /// Which brackets are not closed; that of `()` has its own words above.
+    fn brackets(&self) -> Option<String> {
+        let open: Vec<usize> = self.before.open.iter().rev().filter(|bracket| !bracket.empty).map(|bracket| bracket.at).collect();
+        let named = open.iter().take(NAMED).map(|&at| {
+            let (bracket, at) = (self.src[at] as char, locate(self.src, at));
+            format!("`{bracket}` (line {}, column {})", at.line, at.column)
+        });
+        let more = open.len().checked_sub(NAMED).filter(|&n| n > 0).map(|n| format!("{n} more"));
+        let all: Vec<String> = named.chain(more).collect();
+        match all.split_last()? {
+            (one, []) => Some(format!("{one} is not closed")),
+            (last, front) => Some(format!("{} and {last} are not closed", front.join(", "))),
+        }
     }
 
     /// Whose block is not complete.

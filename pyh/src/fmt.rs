@@ -28,12 +28,12 @@ pub const COMMAND: Command = Command {
 
 const ABOUT: &str = "\
 Writes the standard text of each script to standard output: one statement on a
-line, even where brackets in it stood over several, two spaces for each level, a
-space around operators, strings in double quotes, parentheses only where they
-are needed. It says what the script says, and is its own standard text. Comments
-and blank lines are lost: they are not in it. A PATH is a file, a folder, which
-stands for every .pyh file below it, or - for standard input, which is read
-where nothing is named. The texts of several scripts follow one another.
+line, two spaces for each level, a space around operators, strings in double
+quotes, parentheses only where they are needed. It says what the script says,
+and is its own standard text. Comments and blank lines are lost: they are not in
+it. A PATH is a file, a folder, which stands for every .pyh file below it, or -
+for standard input, which is read where nothing is named. The texts of several
+scripts follow one another.
 ";
 
 const LISTED: &str = "  --write          puts the text in the place of each file; one that has it

@@ -24,7 +24,6 @@ mod sentence;
 mod show;
 mod source;
 mod terminal;
-mod unclosed;
 mod widths;
 
 use arguments::{nearest, no_option, parted, Asked, Command, LISTED, PLACES, STATUS};

@@ -1,7 +1,7 @@
 //! Why a token does not fit: the sentences for 14, and what tries a remedy. What is said of one was tried: with it the reader comes further.
 use crate::before::{before, Before};
 use crate::sentence::quoted;
-use crate::source::{code, indentation, line_number, line_start, token};
+use crate::source::{code, indentation, line_above, line_number, line_start, token};
 use std::ops::Range;
 use tarbucket::{Error, Reader};
 
@@ -9,8 +9,9 @@ use tarbucket::{Error, Reader};
 pub struct Misfit<'a> {
     pub src: &'a [u8],
     pub place: usize,
-    /// The part of the text from the last line feed up to it.
+    /// Its line up to it, and the last line with a token before that.
     line: &'a [u8],
+    above: Option<&'a [u8]>,
     pub before: Before,
 }
 
@@ -33,7 +34,7 @@ pub fn misfit(src: &[u8], place: usize) -> String {
 impl<'a> Misfit<'a> {
     pub fn new(src: &'a [u8], place: usize) -> Misfit<'a> {
         let start = line_start(src, place);
-        Misfit { src, place, line: &src[start..place], before: before(&src[..place]) }
+        Misfit { src, place, line: &src[start..place], above: line_above(src, start), before: before(&src[..place]) }
     }
 
     /// Whether the reader comes further with this in place of a part.
@@ -52,10 +53,6 @@ impl<'a> Misfit<'a> {
         let mended = [&self.src[..part.start], new, &self.src[part.end..]].concat();
         match Reader::new().read(&mended) {
             Ok(_) => Some(usize::MAX),
-            // with a closer more the lines behind it are indented, which may be wrong; what stands before is read without them
-            Err(e @ (Error::Tab { .. } | Error::TooFar { .. } | Error::NoLevel { .. })) => {
-                Some(Reader::new().read(&mended[..e.place()]).map_or_else(|before| before.place(), |_| e.place()))
-            }
             Err(e @ (Error::Misfit { .. } | Error::Cut { .. } | Error::Missing { .. } | Error::TooDeep { .. })) => Some(e.place()),
             Err(_) => None,
         }
@@ -66,25 +63,20 @@ impl<'a> Misfit<'a> {
         self.line.iter().all(|&b| b == b' ')
     }
 
-    /// The line before ends with the colon of its block, and this one is not deeper.
+    /// The line above ends with a colon, and this one is not deeper.
     fn no_body(&self) -> Option<String> {
-        let is_behind_colon = self.before.at_line_start && self.before.colon == Some(self.before.last.start);
-        let here = self.src[self.place..].first().filter(|&&b| b != b'\n' && is_behind_colon && self.is_first())?;
+        let above = self.above.filter(|above| above.ends_with(b":") && self.is_first())?;
+        let here = self.src[self.place..].first().filter(|&&b| b != b'\n')?;
         let deep = self.line.len() + if *here == b' ' { indentation(&self.src[self.place..]) } else { 0 };
-        let wanted = self.indentation_before() + 2;
+        let wanted = indentation(above) + 2;
         (deep < wanted).then(|| format!("The line before it ends with `:`, so this one must begin with {wanted} spaces."))
     }
 
-    /// The spaces that the line of the last token begins with.
-    fn indentation_before(&self) -> usize {
-        indentation(&self.src[line_start(self.src, self.before.first.start)..])
-    }
-
     fn indented(&self) -> String {
-        if self.before.last.end > 0 && indentation(&self.src[self.place..]) <= self.indentation_before() {
-            return "The block ends here, but more was expected.".to_string();
+        match self.above {
+            Some(above) if indentation(&self.src[self.place..]) <= indentation(above) => "The block ends here, but more was expected.".to_string(),
+            _ => "This line is indented deeper than the one before, which opens no block with a `:` at its end.".to_string(),
         }
-        "This line is indented deeper than the one before, which opens no block with a `:` at its end.".to_string()
     }
 
     fn end_of_line(&self) -> String {
@@ -94,7 +86,7 @@ impl<'a> Misfit<'a> {
         } else if self.before.ends_with_tuple() && self.fits(b")") {
             "`()` is no value: the empty tuple is written `())`.".to_string()
         } else if let Some(bracket) = self.before.open.last() {
-            format!("The line ends inside brackets: {}, and what follows must stand on this line.", self.no_longer_spans(bracket))
+            format!("The line ends inside brackets: {}.", bracket.on_one_line())
         } else if self.helps(end..end, b":") {
             "A `:` is missing at the end of this line.".to_string()
         } else {
@@ -105,7 +97,7 @@ impl<'a> Misfit<'a> {
     /// How the sentence on a word goes on.
     fn hint(&self, token: &[u8]) -> String {
         match token {
-            b"else" | b"elif" => self.left_open().unwrap_or_else(|| self.no_if()),
+            b"else" | b"elif" => self.no_if(),
             b"if" if self.line.trim_ascii() == b"else" => ": write `elif`.".to_string(),
             b"=" => self.equal(),
             [sign @ (b'+' | b'-'), _, ..] if self.helps(self.place..self.place + 1, &[*sign, b' ']) => {
@@ -117,7 +109,7 @@ impl<'a> Misfit<'a> {
             }
             _ => {
                 let comma = || if token == b"," { self.comma().map(str::to_string) } else { None };
-                self.quote().or_else(comma).or_else(|| self.left_open()).or_else(|| self.bracket()).unwrap_or_else(|| ".".to_string())
+                self.quote().or_else(comma).or_else(|| self.bracket()).unwrap_or_else(|| ".".to_string())
             }
         }
     }
@@ -134,15 +126,13 @@ impl<'a> Misfit<'a> {
     }
 
     fn equal(&self) -> String {
-        let first = if self.before.at_line_start { &[] } else { &self.src[self.before.first.clone()] };
-        let comparison = || self.reach(&(self.place..self.place + 1), b"==").map(|at| at.saturating_sub(1));
+        let first = token(self.line.trim_ascii_start());
         match self.line.last() {
             Some(&sign @ (b'+' | b'-' | b'*' | b'/' | b'%')) => {
                 let sign = sign as char;
                 format!(": there is no `{sign}=`, so write it out, as in `a = a {sign} b`.")
             }
             Some(b'=') => ": two signs are enough, `==` or `!=`.".to_string(),
-            _ if self.leads_beyond(comparison()) => self.left_open().unwrap_or_default(),
             _ if matches!(first, b"if" | b"elif" | b"while") || !self.before.open.is_empty() => {
                 ": `==` compares, and only a whole line can be `name = value`.".to_string()
             }

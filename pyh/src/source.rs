@@ -20,32 +20,30 @@ pub fn code(line: &[u8]) -> &[u8] {
     line[..i.min(line.len())].trim_ascii_end()
 }
 
+/// The last line before this one that has a token, without its comment.
+pub fn line_above(src: &[u8], start: usize) -> Option<&[u8]> {
+    let mut lines = src[..start].rsplit(|&b| b == b'\n');
+    lines.find_map(|line| (!code(line).is_empty()).then_some(code(line)))
+}
+
 /// The spaces that a line begins with.
 pub fn indentation(line: &[u8]) -> usize {
     line.iter().take_while(|&&b| b == b' ').count()
 }
 
-/// Where each token stands, line feeds outside of brackets among them; blanks and comments are passed over, and line feeds in brackets. These are counted by
-/// their openers and closers, as the reader does it: the empty tuple `())` has one closer more.
+/// Where each token stands, line feeds among them; blanks and comments are passed over.
 pub fn tokens(src: &[u8]) -> impl Iterator<Item = Range<usize>> + '_ {
     let mut i = 0;
-    let mut open = 0_usize;
     std::iter::from_fn(move || {
         loop {
             i += match src.get(i)? {
                 b' ' | b'\t' | b'\r' => 1,
-                b'\n' if open > 0 => 1,
                 b'#' => src[i..].iter().take_while(|&&b| b != b'\n').count(),
                 _ => break,
             };
         }
         let start = i;
         i += token(&src[i..]).len();
-        match src[start] {
-            b'(' | b'[' | b'{' => open += 1,
-            b')' | b']' | b'}' => open = open.saturating_sub(1),
-            _ => {}
-        }
         Some(start..i)
     })
 }

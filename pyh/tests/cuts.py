@@ -8,8 +8,7 @@ import subprocess
 
 EXAMPLES = os.path.join(os.path.dirname(os.path.abspath(__file__)), "../../examples")
 
-# brackets and quotes in strings and comments, calls of calls, lambdas in brackets and outside, blocks on the line of their colon, brackets over several lines
-# and the empty tuple, behind which they no longer go on
+# brackets and quotes in strings and comments, calls of calls, lambdas in brackets and outside, blocks on the line of their colon
 OWN = """\
 halls = ["a)", 'b\\'(', "
 )"], {1: (2, [3, {4: t{5, [6]}}])} # ([{ "
@@ -27,32 +26,11 @@ elif x[y[z]] != "'":
     def b(self): pass
     def c(self, d):
       return self.b(d // 2 % 3)
-graph = { # from ([{
-  "A": [("B", 4), # "over the bridge
-\t("C", - 2)],
-
-      "B": {1:
-2}, "C": f(a)(
-  lambda b: [
-    b, c]
-)}
-if (a
-    or not b[
-  0]): x = [()), 1, ())]
-elif f(()), [2,
-  3], [()), 4]): go(
-    x, (
-5,))
-def g(a,
-      b,
-     ): return f(
-  a)
 """
 
 TOKEN = re.compile(r"""[ \t\r]+|\#[^\n]*|"(?:\\.|[^"\\])*"|'(?:\\.|[^'\\])*'|\d+\.\d+|[+-]\d+|\w+|[=!<>]=|//|.""", re.S)
 CLOSERS = {"(": ")", "[": "]", "{": "}"}
 HEADERS = ("if", "elif", "else", "while", "for", "def", "class")
-NO_VALUES = HEADERS + ("in", "return", "and", "or", "not", "break", "continue", "pass", "lambda")
 
 
 def run(cases, work, tally):
@@ -89,38 +67,27 @@ class Standing:
     """What stands before the end of a text: open brackets, the innermost first, the last token, and the block of its line."""
 
     def __init__(self, text):
-        self.text, self.open, self.half, self.last, self.block = text, [], False, None, None
-        header, lambdas, count = None, 0, 0
+        self.text, self.open, self.last, self.block = text, [], None, None
+        header, lambdas = None, 0
         for token in TOKEN.finditer(text):
             word, line = token[0], text.count("\n", 0, token.start()) + 1
-            if word == "\n" and count == 0:
+            if word == "\n":
                 header = None
             if word.isspace() or word[0] == "#":
                 continue
             if header is None:
                 header, lambdas, self.block = (word, str(line)), 0, None
+            self.last = token
             if word in CLOSERS:
-                count += 1
-                self.tuple = not self.is_value()
                 self.open.insert(0, (word, str(line), str(token.start() - text.rfind("\n", 0, token.start()))))
             elif word in CLOSERS.values():
-                # a `)` right behind a `(` that is no call's is half of the empty tuple, whose other `)` the count takes for that of another bracket
-                count = max(count - 1, 0)
-                self.half = self.last[0] == "(" and self.tuple
-                if not self.half:
-                    del self.open[0]
+                del self.open[0]
             elif word == "lambda" and not self.open:
                 lambdas += 1
             elif word == ":" and not self.open and lambdas:
                 lambdas -= 1
             elif word == ":" and not self.open and header[0] in HEADERS and not self.block:
                 self.block = header + (token,)
-            self.last = token
-
-    def is_value(self):
-        """The last token is a value or the end of one."""
-        word = self.last[0] if self.last else ""
-        return bool(re.match(r"[\w\"')\]}]|[+-]\d", word)) and word not in NO_VALUES
 
     def agrees_at_end(self, number, sentence):
         """The script ends here."""
@@ -133,21 +100,18 @@ class Standing:
         begins = "The script ends too early: " if number == 15 else "The script ends here, but "
         return (
             sentence.startswith(begins)
-            and named == self.open[self.half :][:4]
-            and int(more[1] if more else 0) == max(len(self.open) - self.half - 4, 0)
-            and ("`()` needs one more" in sentence) == self.half
+            and named == self.open[:4]
+            and int(more[1] if more else 0) == max(len(self.open) - 4, 0)
             and (block and block.groups()) == wanted
             and self.agrees_after(sentence, number == 16)
         )
 
     def agrees_in_line(self, number, sentence):
-        """The line ends here: no bracket is open, or one that has an empty tuple."""
-        spans = re.findall(r"behind it `([([{])` \(line (\d+), column (\d+)\) no longer spans lines", sentence)
-        half = sentence == "`()` is no value: the empty tuple is written `())`."
+        """The line ends here."""
+        closing = re.search(r"all up to the closing `(.)` must stand on this line", sentence)
         begins = sentence.startswith("A value is missing at the end of this line, after ")
         return (
-            spans == ([] if half else self.open[:1])
-            and (not half or re.search(r"\(\)\)?$", self.text[: self.last.end()]))
+            (closing and closing[1]) == (CLOSERS[self.open[0][0]] if self.open else None)
             and begins == (number == 16)
             and self.agrees_after(sentence, number == 16)
         )

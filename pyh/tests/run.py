@@ -7,7 +7,6 @@ import traceback
 import carets
 import cuts
 import floats
-import forgotten
 import known
 import streams
 import terminal
@@ -44,7 +43,7 @@ def main():
         for name in ("NO_COLOR", "COLUMNS"):
             os.environ.pop(name, None)
         os.environ.update(TERM="xterm-256color", LC_ALL="C.UTF-8")
-        for part in (transcripts, known, floats, carets, cuts, forgotten, texts, streams, terminal):
+        for part in (transcripts, known, floats, carets, cuts, texts, streams, terminal):
             work = os.path.join(folder, part.__name__)
             os.mkdir(work)
             try:

@@ -1,5 +1,5 @@
 """`pyh fmt` over scripts whose standard text is known by hand, those of tools/reference/write_cases, one by one and many in a row with comments and blank lines
-between them and line feeds in brackets: the text, which scripts differ from it, what a diff does, how many comments there are, what is left of a file. And what it refuses: each script of
+between them: the text, which scripts differ from it, what a diff does, how many comments there are, what is left of a file. And what it refuses: each script of
 crates/reader_cases as `pyh check` does, and blocks with no statement."""
 import os
 import random
@@ -16,9 +16,6 @@ import write_cases  # noqa: E402
 
 JOINED = 100
 OLD = 1000000000
-
-# what may stand in brackets
-WITHIN = ["\n", "\n\t", "\n\n      ", "\r\n", " # within\n", "\n  # 'a'\n  "]
 
 
 def run(cases, work, tally):
@@ -40,25 +37,14 @@ def run(cases, work, tally):
 
 
 def joined(some):
-    """Sources in a row, at times with comments and blank lines between and within brackets, and the texts in a row."""
+    """Sources in a row, at times with comments and blank lines between, and the texts in a row."""
     between = ["", "", "", "", "\n", "# comment\n", "  # 'a'\n\n"]
     # behind a class no blank line fits, and a carriage return that opens a line ends no block
     whole = [part for part in write_cases.STATEMENTS if "class" not in part[0] and not re.search("(^|\n)\r", part[0])]
-    parts = [(spread(some, source) + "\n" + some.choice(between), text) for source, text in some.choices(whole, k=some.choice((5, 30, 200)))]
+    parts = [(source + "\n" + some.choice(between), text) for source, text in some.choices(whole, k=some.choice((5, 30, 200)))]
     standard = [(text, text) for _, text in some.choices(parts, k=len(parts))]
     some.shuffle(parts := parts[: len(parts) // 4] + standard)
     return tuple("".join(part).encode() for part in zip(*parts))
-
-
-def spread(some, source):
-    """Line feeds, at times with a comment, behind some openers and commas; none where as many brackets were closed as opened, for the empty tuple has a closer more."""
-    out, count = "", 0
-    for token in cuts.TOKEN.finditer(source):
-        out, word = out + token[0], token[0]
-        count = max(count + (word in cuts.CLOSERS) - (word in cuts.CLOSERS.values()), 0)
-        if count and (word == "," or word in cuts.CLOSERS) and some.random() < 0.3:
-            out += some.choice(WITHIN)
-    return out
 
 
 def path(k):
@@ -179,8 +165,9 @@ def hollow(work, tally):
     for k, (source, number) in enumerate(likely):
         done = pyh(work, "hollow/%04d.pyh" % k)
         said = re.search(rb"\(number (\d+)\)", done.stderr)
-        block = "The block of `%s` (line %s) has no statement" % cuts.Standing(source).block[:2] if number == 17 else ""
+        header = len(source[: source.rindex(":")].split("\n")) if ":" in source else 0
+        block = b"The block of `%s` (line %d) has no statement" % (re.search(r"\w+", source.split("\n")[header - 1])[0].encode(), header) if number == 17 else b""
         place = b": line %d, column %d " % (source.count("\n") + 1, len(source.split("\n")[-1]) + 1) if number == 17 else b""
-        if (int(said[1]) if said else 0) != number or block.encode() not in done.stderr or place not in done.stderr or done.returncode != (number > 0):
+        if (int(said[1]) if said else 0) != number or block not in done.stderr or place not in done.stderr or done.returncode != (number > 0):
             wrong.append("%r: %s" % (source, done.stderr))
     tally.case("texts: %d blocks with no statement, or nearly so" % len(likely), not wrong, "\n".join(wrong[:5]))

@@ -96,7 +96,6 @@ def make_forms(folder):
     put(folder, "form/standard.pyh", b"if a:\n  b\n")
     put(folder, "form/two\nlines.pyh", b"a=1\n")
     put(folder, "form/unended.pyh", b"a = 1\nb = 2")
-    put(folder, "lists/graph.pyh", GRAPH.encode())
 
 
 LOOSE = """\
@@ -126,21 +125,6 @@ halls = [1, 2]  # the first, on a line with "quotes"
 # the second
 if halls: # the third # and no fourth
   show('#')
-"""
-
-GRAPH = """\
-gate = "B"
-graph = { # the first
-\t"A": [("북관", 4), # the second
-
-     # the third
-     ("C", 2)], "B": ["# no comment"],
-}
-hall = graph["A"]
-lift = 3
-tell(hall, # the fourth
-  lift)
-tell(gate)
 """
 
 

@@ -9,7 +9,7 @@ use crate::source::Source;
 struct Long(&'static str, &'static str, &'static str, &'static str, usize);
 
 /// Expressions.
-const EXPRESSIONS: [Long; 53] = [
+const EXPRESSIONS: [Long; 48] = [
     Long("sums", "a", "+a", "", 0),
     Long("sums", "a", "-a", "", 0),
     Long("sums", "역", "+역", "", 0),
@@ -42,11 +42,6 @@ const EXPRESSIONS: [Long; 53] = [
     Long("members", "[", "'\\n',", "]", 1),
     Long("members", "[", "1.5,", "]", 1),
     Long("members", "[", "()),", "]", 1),
-    Long("lines in brackets", "[", "\n", "]", 0),
-    Long("lines in brackets", "(", "\r\n\t", "a)", 1),
-    Long("lines in brackets", "a(", "\n#", "\n)", 0),
-    Long("lines in brackets", "{", "a,\n", "}", 1),
-    Long("lines in brackets", "a", "[\na\n]", "", 1),
     Long("bare tuples", "a", ",a", "", 0),
     Long("many arguments", "a(", "a,", ")", 1),
     Long("many lambdas", "[", "lambda:a,", "]", 2),

@@ -5,7 +5,7 @@ use crate::nest::{nest, shown, DEEPEST};
 use crate::source::Source;
 
 /// What stands behind, its number, and its place from there on.
-const ENDS: [(&[u8], u32, usize); 22] = [
+const ENDS: [(&[u8], u32, usize); 17] = [
     (b"'a\xff'", 5, 2),
     (b"\ta", 6, 0),
     (b" a", 7, 0),
@@ -23,11 +23,6 @@ const ENDS: [(&[u8], u32, usize); 22] = [
     (b"if a:\n  a", 14, 9),
     (b"if a:\n  a=", 16, 10),
     (b"(a", 15, 2),
-    (b"(a\n", 15, 3),
-    (b"[\n\ta b\n]", 14, 5),
-    (b"[()),\na]", 14, 5),
-    (b"if a:\n  a[\n", 16, 11),
-    (b"if a:\n  a(\n", 14, 11),
 ];
 
 /// Leaves at which the grammar says no at once.

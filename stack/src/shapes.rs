@@ -36,8 +36,8 @@ pub const BLOCKS: [Sort; 7] = [
     ),
 ];
 
-/// E within E. No line feed stands behind the hole: with `())` in it the brackets around count as closed too early.
-pub const BRACKETS: [Sort; 14] = [
+/// E within E.
+pub const BRACKETS: [Sort; 13] = [
     ("parentheses", &["($)"]),
     ("tuples", &["($,)", "($,a)", "(|a,$)", "(|a,a,$)"]),
     ("lists", &["[$]", "[$,]", "[|a,$]", "[|a,a,$]"]),
@@ -47,7 +47,6 @@ pub const BRACKETS: [Sort; 14] = [
     ("dicts by value", &["{|a:$}", "{|a:a,a:$}", "{|a:a,a:a,a:$,}"]),
     ("arguments", &["a($)", "a.a($)", "a()($)", "a(|a,$)", "a.a[|a](a,a,$)"]),
     ("indices", &["a[$]", "a.a[$]", "a()[$]", "a[|a][$]"]),
-    ("brackets over lines", &["(\n$)", "[\n\n\t|a,\n$,]", "a(# a\n\t$)", "{|a: # a\n a,\r\na:\n$,}"]),
     ("lambdas", &["lambda:$", "lambda a:$", "lambda a,a:$"]),
     ("signs", &["-($)", "+ ($)", "not ($)", "-[$]", "not - + not a[$]", "not - + not {|a:a,a:$}"]),
     (

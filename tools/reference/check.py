@@ -7,7 +7,6 @@ import itertools
 import random
 import time
 
-import check_brackets
 import check_commas
 import check_cut
 import check_write
@@ -82,7 +81,6 @@ def compare(source):
         # A level changes only before a token that is no Newline, or at the end.
         assert not any(token.code in (Code.Indent, Code.Dedent) and after.code == Code.Newline
                        for token, after in zip(tokens, tokens[1:])), source
-        check_brackets.lawful(source, tokens)
         done = agree(tokens, source)
         number = told(tokens, done)
         check_cut.as_the_descent(source, tokens, done, number)
@@ -230,7 +228,6 @@ def main():
         ("cut scripts by hand", check_cut.by_hand),
         ("what begins E and F, by the trial", check_cut.begins),
         ("what could stand, by the trial", check_cut.by_trial),
-        *check_brackets.PARTS,
         ("short strings", short_strings),
         ("token lists", lambda: token_lists(4)),
         ("walks", walks),

@@ -188,12 +188,12 @@ def by_chance():
 
 def nested():
     """The text's depth is never larger: 13 does not come, at the limit either."""
-    make = write_forms.generate
-    sources = [make.nested(sort, depth) for sort in make.NESTED for depth in (62, 63)]
-    sources += make.nested_over_lines(63)
-    for source in sources:
-        lawful(source)
-    return len(sources)
+    cases = 0
+    for sort in write_forms.generate.NESTED:
+        for depth in (62, 63):
+            lawful(write_forms.generate.nested(sort, depth))
+            cases += 1
+    return cases
 
 
 def longest():

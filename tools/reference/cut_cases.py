@@ -7,71 +7,60 @@ parts beginnings, escapes are Python's.
 
 OPERATORS = "or and == != < <= > >= + - * // / %".split()
 
-# Behind these only an expression or operand could stand: in a t, in another line, behind lines, and behind lines with a block open. With a bracket open a line
-# feed is no token (change 7), so these have lists of their own.
+# Behind these only an expression or operand could stand: in a t, in another line, behind lines,
+# and behind lines with a block open.
 ONLY_IN_T = r"""
 not|-|+|not not|- -|+ - not|- not|a.b or|a < b <|a + b *|a * -|a and b or|not a ==|a, b +|a, not|a or b and|1.5 *|'s' +|-1 -|a() or|a[b] and
-lambda:|lambda a:|lambda a,:|lambda a, b:|lambda: lambda:|lambda: not|lambda: a +
-"""
-ONLY_IN_T_OPEN = r"""
 (a +|(a, b or|(not|(-|((a <|[a *|[a, not|[-|f(a %|f(a, b or|f(+|t{a <|t{a, -|{a or|{a, b and|{not|{a: b -|{a: b, c *|{a: -|{a: b, not|x[a //|x[not
 x[|x[y[|f()[|a.b[|x[y][|(a)[|'s'[|{1:|{a: b, c:|{a: b, c: d, e:|{{a: b}:|{lambda: a:|{(a, b):|[{a:|f({a:|t{{a:
-(lambda:|[lambda a:|f(a, lambda:|{lambda:|{a: lambda:|x[lambda:|lambda: a[
+lambda:|lambda a:|lambda a,:|lambda a, b:|lambda: lambda:|(lambda:|[lambda a:|f(a, lambda:|{lambda:|{a: lambda:|x[lambda:|lambda: not|lambda: a +|lambda: a[
 """
 ONLY_IN_A_LINE = r"""
-x =|a, b =|a, =|a.b =|a[b] =|f() =|1 =|()) =|x = not|x = a or|x = a, b +|x = lambda:|return|return -|return a, b or|return lambda:
-if|if not|if a and|if lambda:|while|while a <|while not|for a in|for a in b or|for a in -
-a; b =|a; not|a; return|pass; x =|a; b; c *|x = a; y =|if a: return|if a: x =|if a: not|while a: b +|def f(): return|def f(a): x =
-"""
-ONLY_IN_A_LINE_OPEN = r"""
-x = a[|x = {a:|return a[|if a[|if {a:|while (a +|for a in b[|for a in {a:|for a in b: c[|def f(a, b): {a:
+x =|a, b =|a, =|a.b =|a[b] =|f() =|1 =|()) =|x = not|x = a or|x = a, b +|x = a[|x = {a:|x = lambda:|return|return -|return a, b or|return a[|return lambda:
+if|if not|if a and|if a[|if {a:|if lambda:|while|while a <|while not|while (a +|for a in|for a in b or|for a in b[|for a in -|for a in {a:
+a; b =|a; not|a; return|pass; x =|a; b; c *|x = a; y =|if a: return|if a: x =|if a: not|while a: b +|for a in b: c[|def f(): return|def f(a): x =|def f(a, b): {a:
 """
 ONLY_BEHIND_LINES = r"""
-if a: b\nelif|if a:\n  b\nelif|if a: b\nelif c: d\nelif|if a: b\nelif c or|if a: b\nelse: x =|if a: b\nelse: return|if a: b\nelse: not|a\nb\nc =|\n#c\n\nx =
+if a: b\nelif|if a:\n  b\nelif|if a: b\nelif c: d\nelif|if a: b\nelif c or|if a: b\nelif c[|if a: b\nelse: x =|if a: b\nelse: return|if a: b\nelse: not|a\nb\nc =|\n#c\n\nx =
 if a:\n  b\nx =|class A:\n  def f(): a\nreturn|while a:\n  b\nc\nd +|def f():\n  def g():\n    a\nx =
 """
-ONLY_BEHIND_LINES_OPEN = r"if a: b\nelif c["
 ONLY_IN_A_BLOCK = r"""
 if a:\n  b\n  x =|if a:\n  b\nelse:\n  return|class A:\n  def f(): return|class A:\n  def f(): a\n  def g(): x =|class A:\n  def f():\n    return|if a:\n  if b: c\n  elif
-if a:\n  if b:\n    c\n  elif|def f():\n  def g():\n    a\n  b +|if a:\n  while b:\n    c\n    not
+if a:\n  if b:\n    c\n  elif|for a in b:\n  c\n  d[|def f():\n  def g():\n    a\n  b +|if a:\n  while b:\n    c\n    not|if a:\n  #c\n\n  {b:
 """
-ONLY_IN_A_BLOCK_OPEN = r"for a in b:\n  c\n  d[|if a:\n  #c\n\n  {b:"
 
 # Behind these something else could stand: a closer, a name, a mark, an operator.
-ALSO_IN_T = r"()|a.|a.b.|f().|lambda|lambda a|lambda a,|lambda a, b|lambda a, b,|a, b.|lambda: a."
-ALSO_IN_T_OPEN = r"""
-(|(a|(a,|(a, b|(a, b,|((a)|((|(a + b|(not a|f((|f(()|[|[a|[1,|[a, b|[a, b,|[[a]|[a or b|{|{a|{a,|{a, b|{a, b,|{a: b|{a: b,|{a: b, c|{a: b, c: d|{a: b, c: d,|{{|{-a
-t{|t{a|t{a,|t{a, b,|t{t{|f(|f(a|f(a,|f(a, b|f(a, b,|f(g(|f(a)(|x[a|x[a or b|x[a](|(a.|[a.|{a: b.
-(lambda|[lambda a|f(lambda a,|{a: lambda|not (|- [|a or {|a + f(|a < t{|a, (|x[(|x[[|x[{|{a: (|lambda: (
+ALSO_IN_T = r"""
+(|()|(a|(a,|(a, b|(a, b,|((a)|((|(a + b|(not a|f((|f(()|[|[a|[1,|[a, b|[a, b,|[[a]|[a or b|{|{a|{a,|{a, b|{a, b,|{a: b|{a: b,|{a: b, c|{a: b, c: d|{a: b, c: d,|{{|{-a
+t{|t{a|t{a,|t{a, b,|t{t{|f(|f(a|f(a,|f(a, b|f(a, b,|f(g(|f(a)(|x[a|x[a or b|x[a](|a.|a.b.|f().|(a.|[a.|{a: b.|lambda|lambda a|lambda a,|lambda a, b|lambda a, b,
+(lambda|[lambda a|f(lambda a,|{a: lambda|not (|- [|a or {|a + f(|a < t{|a, (|a, b.|x[(|x[[|x[{|{a: (|lambda: (|lambda: a.
 """
 ALSO_IN_A_LINE = r"""
-x = a.|if a.|if a|if a or b|while a|for|for a|for a in b|def|def f|def f()|class|class A|a; b.|if a: b.|return lambda|x = lambda a
-"""
-ALSO_IN_A_LINE_OPEN = r"""
-x = (|a, b = [|return {|return f(|return (a,|if (|while [|for a in (|def f(|def f(a|def f(a,|def f(a, b|a; (|if a: (|def f(): [|for a in b: c(|while a: {
+x = (|x = a.|a, b = [|return {|return f(|return (a,|if (|if a.|if a|if a or b|while a|while [|for|for a|for a in b|for a in (|def|def f|def f(|def f(a|def f(a,|def f(a, b|def f()
+class|class A|a; (|a; b.|if a: (|if a: b.|def f(): [|for a in b: c(|while a: {|return lambda|x = lambda a
 """
 # Behind these a line feed can stand, and an Indent behind that.
 COLONS = "if a:|while a:|for a in b:|def f():|def f(a, b):|class A:"
 
 BY_HAND = [
     # single scripts, most of which stand in the lists below too
-    ("x =", 15, 3), ("x =\n", 16, 3), ("()", 15, 2), ("()\n", 14, 2), ("f(\n", 15, 3), ("[1,\n", 15, 4), ("(\n", 15, 2), ("{\n", 15, 2), ("class A:\n", 15, 9),
-    ("x[\n", 15, 3), ("{1:\n", 15, 4), ("not\n", 16, 3), ("return\n", 16, 6), ("lambda:\n", 16, 7), ("if a:\n  x =", 16, 11), ("lambda\n", 14, 6),
-    ("a.\n", 14, 2), ("def f(\n", 15, 7), ("if a:\n  if b:", 14, 13), ("a-1", 14, 1),
+    ("x =", 15, 3), ("x =\n", 16, 3), ("()", 15, 2), ("f(\n", 14, 2), ("[1,\n", 14, 3), ("(\n", 14, 1), ("{\n", 14, 1), ("class A:\n", 15, 9),
+    ("x[\n", 16, 2), ("{1:\n", 16, 3), ("not\n", 16, 3), ("return\n", 16, 6), ("lambda:\n", 16, 7), ("if a:\n  x =", 16, 11), ("lambda\n", 14, 6),
+    ("a.\n", 14, 2), ("def f(\n", 14, 6), ("if a:\n  if b:", 14, 13), ("a-1", 14, 1),
     # the end, behind blanks, comments and line feeds: "Eof is n"
     ("x = ", 15, 4), ("x =\t\r", 15, 5), ("x = #c", 15, 6), ("x = # \xe9", 15, 8), ("if a:\n\n", 15, 7), ("if a:\n#c", 15, 8), ("if a:\n#c\n", 15, 9), ("class A:\n\n\n", 15, 11),
     ("class A:\n#c\n", 15, 12), ("if a: b\nelse:", 15, 13), ("if a: b\nelse:\n", 15, 14), ("if a: b\nelif c:\n\n", 15, 17), ("if a:\n  ", 0, 0), ("class A:\n  ", 14, 11), ("if a:\n    ", 7, 6),
     ("\xe9 =", 15, 4), ("\ud55c[", 15, 4), ("(\ud55c", 15, 4),
     # the Newline, behind blanks and comments; what follows it is not looked at
-    ("x = \n", 16, 4), ("x =\r\n", 16, 4), ("x = #c\n", 16, 6), ("x = # \xe9\n", 16, 8), ("\xe9 =\n", 16, 4), ("\ud55c[\n", 15, 5), ("x =\n\n\n", 16, 3), ("x = ''\ny =\n", 16, 10), ("x =\ny =", 16, 3),
-    ("x =\n(", 16, 3), ("(\nx =\n", 14, 4), ("x = 'a\n' +\n", 16, 10), ("x =\n  y\n", 16, 3), ("x[\n  a]\n", 0, 0), ("f(\n  a)\n", 0, 0), ("a +\nb", 16, 3), ("{a:\nb}", 0, 0), ("(a,\nb)", 0, 0),
+    ("x = \n", 16, 4), ("x =\r\n", 16, 4), ("x = #c\n", 16, 6), ("x = # \xe9\n", 16, 8), ("\xe9 =\n", 16, 4), ("\ud55c[\n", 16, 4), ("x =\n\n\n", 16, 3), ("x = ''\ny =\n", 16, 10), ("x =\ny =", 16, 3),
+    ("x =\n(", 16, 3), ("(\nx =\n", 14, 1), ("x = 'a\n' +\n", 16, 10), ("x =\n  y\n", 16, 3), ("x[\n  a]\n", 16, 2), ("f(\n  a)\n", 14, 2), ("a +\nb", 16, 3), ("{a:\nb}", 16, 3), ("(a,\nb)", 14, 3),
     # a Dedent at the end, the first of one or two
     ("if a:\n  if b:\n    not", 16, 21), ("if a:\n  if b:\n    (", 14, 19), ("if a:\n  x = #c", 16, 14), ("if a:\n  x = ", 16, 12), ("if a:\n  b", 14, 9), ("if a:\n  b;", 14, 10), ("if a:\n  b,", 14, 10),
     ("if a:\n  pass", 14, 12), ("if a:\n  return b", 14, 16), ("if a:\n  if b:\n", 14, 14), ("if a:\n  if b: c", 14, 15), ("if a:\n  class A:\n", 14, 17), ("class A:\n  def f(): a", 14, 21),
     ("class A:\n  def f():\n", 14, 20), ("class A:\n  def f(", 14, 17), ("class A:\n  def", 14, 14), ("if a:\n  '\xe9' +", 16, 14),
     # a Dedent with more behind it: after a carriage return and a token the flag is still set
     ("if a:\n  b\n\r-c\n", 16, 12), ("if a:\n  b\n\rnot(c)\n", 16, 14), ("if a:\n  b\n\rreturn(c)\n", 16, 17), ("if a:\n  b\n\rif(c): d\n", 16, 13), ("if a:\n  b\n\rwhile[c]: d\n", 16, 16),
-    ("if a:\n  b\n\r+'c'\n", 16, 12), ("if a:\n  b\n\r-", 16, 12), ("if a:\n  b\n\r(c)\n", 0, 0), ("if a:\n  b\n\r[c]\n", 0, 0), ("if a:\n  b\n\rc=d\n", 14, 12), ("if a:\n  b\n\rlambda:c\n", 14, 17),
+    ("if a:\n  b\n\r+'c'\n", 16, 12), ("if a:\n  b\n\r-", 16, 12), ("if a:\n  b\n\r(c)\n", 14, 12), ("if a:\n  b\n\r[c]\n", 14, 12), ("if a:\n  b\n\rc=d\n", 14, 12), ("if a:\n  b\n\rlambda:c\n", 14, 17),
     ("if a:\n  if b:\n    c\n\r-d\n", 16, 22), ("if a:\n  if b:\n    c\n\r-  d\n", 16, 22), ("if a:\n  if b:\n    c\n\r(", 14, 22), ("if a:\n  b\n\r-    c\n", 14, 12), ("if a:\n  b\n\r-  c\n", 0, 0),
     # other tokens where only an expression or operand could stand
     ("x = ;", 14, 4), ("x = =", 14, 4), ("x = :", 14, 4), ("x = if", 14, 4), ("x = pass\n", 14, 4), ("x[]\n", 14, 2), ("{1:}", 14, 3), ("{a: b, c:}", 14, 9), ("not else", 14, 4), ("a or or b", 14, 5),
@@ -82,7 +71,7 @@ BY_HAND = [
     ("x =\n\t", 6, 4), ("x =\n   ", 7, 4), ("if a:\n  x =\n b", 8, 12), ("x =\n$", 9, 4), ("a <\\", 9, 3), ("x = 9223372036854775808", 10, 4), ("x = 1.0e24", 11, 4), ("x =\n\ud55c$", 9, 7), ("()\n$", 9, 3),
     ("a,", 0, 0), ("a;", 0, 0), ("return a,\n", 0, 0), ("\n", 0, 0), ("())\n", 0, 0),
     # 64 E are open: 13 is for a token that would open one more
-    ("f[" * 64 + "a", 13, 128), ("f[" * 64, 15, 128), ("f[" * 64 + "\n", 15, 129), ("f[" * 64 + ")", 14, 128), ("(" * 64 + "\n", 15, 65), ("(" * 64, 15, 64), ("not " * 70 + "\n", 16, 280), ("not " * 70, 15, 280),
+    ("f[" * 64 + "a", 13, 128), ("f[" * 64, 15, 128), ("f[" * 64 + "\n", 16, 128), ("f[" * 64 + ")", 14, 128), ("(" * 64 + "\n", 14, 64), ("(" * 64, 15, 64), ("not " * 70 + "\n", 16, 280), ("not " * 70, 15, 280),
 ]
 
 
@@ -95,9 +84,11 @@ def only_in_t():
     return [*beginnings(ONLY_IN_T), *(f"a {operator}" for operator in OPERATORS)]
 
 
+def also_in_t():
+    return list(beginnings(ALSO_IN_T))
+
+
 BLOCK = "if a:\n  "
-# Another line, and a mark that does not fit: each beginning takes one of two by turns.
-LINES, MARKS = ("\nb\n", "\n  b\n"), (" )", " ,\n")
 
 
 def in_lines():
@@ -105,8 +96,9 @@ def in_lines():
     for count, text in enumerate([*only_in_t(), *beginnings(ONLY_IN_A_LINE)]):
         place = len(text)
         yield from [(text, 15, place), (text + "\n", 16, place), (BLOCK + text, 16, 8 + place)]
-        yield from [(BLOCK + text + LINES[count % 2], 16, 8 + place), (text + MARKS[count % 2], 14, place + 1)]
-    for text in [*beginnings(ALSO_IN_T), *beginnings(ALSO_IN_A_LINE)]:
+        yield BLOCK + text + ("\nb\n", "\n  b\n")[count % 2], 16, 8 + place
+        yield text + (" )", " ,\n")[count % 2], 14, place + 1
+    for text in [*also_in_t(), *beginnings(ALSO_IN_A_LINE)]:
         place = len(text)
         yield from [(text, 15, place), (text + "\n", 14, place), (BLOCK + text, 14, 8 + place)]
     for text in beginnings(COLONS):
@@ -115,29 +107,14 @@ def in_lines():
         yield from [(BLOCK + text + "\n", 14, 9 + place), (BLOCK + text + "\nb\n", 14, 9 + place)]
 
 
-def in_open_lines():
-    """The same with a bracket open: what stands behind a line feed goes on, and with nothing there the end or a closing Dedent is met, at n."""
-    for count, text in enumerate([*beginnings(ONLY_IN_T_OPEN), *beginnings(ONLY_IN_A_LINE_OPEN)]):
-        place, more = len(text), LINES[count % 2]
-        yield from [(text, 15, place), (text + "\n", 15, place + 1), (BLOCK + text, 16, 8 + place), (BLOCK + text + "\n", 16, 9 + place)]
-        yield from [(BLOCK + text + more, 14, 8 + place + len(more)), (text + MARKS[count % 2], 14, place + 1)]
-    for text in [*beginnings(ALSO_IN_T_OPEN), *beginnings(ALSO_IN_A_LINE_OPEN)]:
-        place = len(text)
-        yield from [(text, 15, place), (text + "\n", 15, place + 1), (BLOCK + text, 14, 8 + place), (BLOCK + text + "\n", 14, 9 + place)]
-
-
 def behind_lines():
     for block, end in ((ONLY_BEHIND_LINES, 15), (ONLY_IN_A_BLOCK, 16)):
         for text in beginnings(block):
             place = len(text)
             yield from [(text, end, place), (text + " #c\n", 16, place + 3), (text + "\nb\n", 16, place), (text + " )", 14, place + 1)]
-    for block, end, later in ((ONLY_BEHIND_LINES_OPEN, 15, 15), (ONLY_IN_A_BLOCK_OPEN, 16, 14)):
-        for text in beginnings(block):
-            place = len(text)
-            yield from [(text, end, place), (text + " #c\n", end, place + 4), (text + "\nb\n", later, place + 3), (text + " )", 14, place + 1)]
 
 
 def cases():
     """All of them: source, number, place."""
-    for text, number, place in [*BY_HAND, *in_lines(), *in_open_lines(), *behind_lines()]:
+    for text, number, place in [*BY_HAND, *in_lines(), *behind_lines()]:
         yield text.encode(), number, place

@@ -75,11 +75,6 @@ def nested(sort, depth):
     return opener * depth + (b"())" if sort == "empty tuples" else b"a") + closer * depth
 
 
-def nested_over_lines(depth):
-    """Two sorts that nest so, each bracket on a line of its own."""
-    return [b"[\n" * depth + b"a" + b"\n]" * depth, b"f(\n " * depth + b"a" + b" # )\n)" * depth]
-
-
 NESTED = ["blocks", "parentheses", "tuples", "lists", "braces", "pairs", "keys", "tree sets",
           "calls", "indexes", "lambdas", "signs", "empty tuples"]
 
@@ -268,21 +263,14 @@ class Writer:
         return self.rng.choice((b"", b" ", b" ", b"  ", b"\t", b"\r"))
 
     def join(self, words):
-        """Words with blanks between, none only beside a bracket or one of , ; : and line feeds only
-        where a bracket is open by the count of 02: "a closer at zero leaves zero"."""
-        made, brackets = words[0], 0
+        """Words with blanks between, none only beside a bracket or one of , ; :"""
+        made = words[0]
         for before, after in zip(words, words[1:]):
-            brackets = max(brackets + (before in OPENERS) - (before in CLOSERS), 0)
             close = before in SAFE or after in SAFE
-            over_lines = brackets > 0 and self.chance(0.12)
-            blank = self.rng.choice(INSIDE) if over_lines else self.blank()
-            made += (blank if close else blank or b" ") + after
+            made += (self.blank() if close else self.blank() or b" ") + after
         return made
 
 
-OPENERS, CLOSERS = b"( [ {".split(), b") ] }".split()
-SAFE = [*OPENERS, *CLOSERS, b",", b";", b":"]
-# What may part two words inside brackets, over lines.
-INSIDE = [b"\n", b"\n", b"\n  ", b"\n   ", b" \n\t", b"\r\n", b"\n\r", b"\n\n", b" # c\n", b"#(\n", b"#)]\n  "]
+SAFE = b"( ) [ ] { } , ; :".split()
 # "One E with a trailing comma" (02), alone and beside parentheses, which make a Tuple of one too.
 ONE_AND_A_COMMA = [b"E ,", b"E ,", b"( E ) ,", b"( E , ) ,", b"( ( E , ) , )"]

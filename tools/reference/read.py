@@ -1,5 +1,5 @@
-"""The reader of document 01, with changes 1, 3, 4, 5 and 7 of document 02: the questions,
-the answer, the areas, the program.
+"""The reader of document 01, with changes 1, 3, 4 and 5 of document 02: the questions, the
+answer, the areas, the program.
 
 Run as a program it reads a script from standard input and prints its tree, or `no`,
 number and place.

@@ -1,5 +1,5 @@
 """Source text to tokens: sections "Raw tokens" and "Indentation" of document 01, and
-changes 1 and 7 of document 02.
+change 1 of document 02.
 
 Quoted sentences are those of 01 and 02. Written from these papers alone, as the judge
 that expected results come from; it favours plainness over speed.
@@ -52,12 +52,7 @@ PATTERNS = [
 # "Between tokens, runs of space, tab and carriage return are skipped, and `#` up
 # to a line feed."
 SKIPPED = re.compile(rb"(?:[ \t\r]+|#[^\n]*)*")
-# "Inside ( [ { a line feed is skipped like a space and the spaces after it, or tabs, count for
-# nothing" (02)
-SKIPPED_INSIDE = re.compile(rb"(?:[ \t\r\n]+|#[^\n]*)*")
 SPACES = re.compile(rb" *")
-OPENERS = (Code.LParen, Code.LBracket, Code.LBrace)
-CLOSERS = (Code.RParen, Code.RBracket, Code.RBrace)
 
 # value: Bool 1 or 0, Int an int, Float a float, String (offset, length) in the
 # text, Identifier its bytes, otherwise None.
@@ -139,47 +134,16 @@ def string_value(spelling):
     return ESCAPE.sub(lambda m: ESCAPES.get(m.group(1), m.group()), spelling[1:-1])
 
 
-def value_of(code, spelling, place, text):
-    """What the token brings along; a string's decoded bytes are added to the text."""
-    if code == Code.Bool:
-        return int(spelling == b"True")
-    if code == Code.Int:
-        return int_value(spelling, place)
-    if code == Code.Float:
-        return float_value(spelling, place)
-    if code == Code.Identifier:
-        return spelling
-    if code == Code.String:
-        # "Decoded strings fill the text in token order."
-        decoded = string_value(spelling)
-        text += decoded
-        return len(text) - len(decoded), len(decoded)
-    return None
-
-
-def levelled(levels, began, place):
-    """The tokens of a line's counted spaces, by which the open levels change."""
-    count = place - began
-    # "More: exactly top + 2 gives Indent, spanning the spaces."
-    if count > levels[-1]:
-        if count != levels[-1] + 2:
-            raise Refusal(7, began)
-        levels.append(count)
-        yield Token(Code.Indent, began, place, None)
-    # "Less: one Dedent per level, spanning the spaces; the count must be a level."
-    while count < levels[-1]:
-        levels.pop()
-        yield Token(Code.Dedent, began, place, None)
-    if count != levels[-1]:
-        raise Refusal(8, began)
-
-
 def scan(source):
     """Tokens with Eof last, and the decoded text; or the first of refusals 6 to 11."""
     n = len(source)
-    tokens, text, levels = [], bytearray(), [0]
-    # "The scanner counts open brackets of all three sorts together" (02)
-    place = brackets = 0
+    tokens, text = [], bytearray()
+    levels = [0]
+    place = 0
+
+    def emit(code, start, end, value=None):
+        tokens.append(Token(code, start, end, value))
+
     # "A flag, set at the start and after each Newline, makes the next call count spaces."
     flag = True
     while True:
@@ -194,12 +158,24 @@ def scan(source):
             # changes; otherwise, also at the end of the source, it is cleared."
             if following not in (b"\n", b"\r", b"#"):
                 flag = False
-                tokens += levelled(levels, began, place)
+                count = place - began
+                # "More: exactly top + 2 gives Indent, spanning the spaces."
+                if count > levels[-1]:
+                    if count != levels[-1] + 2:
+                        raise Refusal(7, began)
+                    levels.append(count)
+                    emit(Code.Indent, began, place)
+                # "Less: one Dedent per level, spanning the spaces; the count must be a level."
+                while count < levels[-1]:
+                    levels.pop()
+                    emit(Code.Dedent, began, place)
+                if count != levels[-1]:
+                    raise Refusal(8, began)
 
         # A call then skips and matches, whether or not the flag is still set: "After a
         # carriage return then a token, the flag is still set, so spaces after that token
-        # are counted: copy this." "inside means a count above zero" (02)
-        place = (SKIPPED_INSIDE if brackets > 0 else SKIPPED).match(source, place).end()
+        # are counted: copy this."
+        place = SKIPPED.match(source, place).end()
         if place == n:
             break
         # "Another character over 127 where a token would start gets 9, so 12 never occurs
@@ -207,21 +183,30 @@ def scan(source):
         code, end = longest(source, place)
         if code is None:
             raise Refusal(9, place)
-        tokens.append(Token(code, place, end, value_of(code, source[place:end], place, text)))
+        spelling = source[place:end]
+        value = None
+        if code == Code.Bool:
+            value = int(spelling == b"True")
+        elif code == Code.Int:
+            value = int_value(spelling, place)
+        elif code == Code.Float:
+            value = float_value(spelling, place)
+        elif code == Code.Identifier:
+            value = spelling
+        elif code == Code.String:
+            # "Decoded strings fill the text in token order."
+            decoded = string_value(spelling)
+            value = (len(text), len(decoded))
+            text += decoded
+        emit(code, place, end, value)
         place = end
         if code == Code.Newline:
             flag = True
-        elif code in OPENERS:
-            # "an opener clears the flag" (02)
-            brackets += 1
-            flag = False
-        elif code in CLOSERS:
-            # "a closer at zero leaves zero" (02)
-            brackets = max(brackets - 1, 0)
 
     # "At the end, open levels close with empty Dedents at n."
-    tokens += [Token(Code.Dedent, n, n, None) for _ in levels[1:]]
+    for _ in levels[1:]:
+        emit(Code.Dedent, n, n)
     # "T is the number of tokens without Eof, and T is at most n."
     assert len(tokens) <= n and len(text) <= n
-    tokens.append(Token(Code.Eof, n, n, None))
+    emit(Code.Eof, n, n)
     return tokens, bytes(text)

@@ -9,7 +9,6 @@ import os
 import random
 import sys
 
-import bracket_cases
 import generate
 import name_cases
 from scan import SPELLINGS, Refusal, scan, utf8
@@ -102,7 +101,7 @@ if(a)|if1|1if|if'a'|'a'if|not-1|not -1|return-1|a or-1|a%-1|a*+1|a--1|a++1|a- -1
 
 
 def picked():
-    """The lists above, those of name_cases.py and bracket_cases.py, and every byte and spelling alone and behind a name."""
+    """The lists above and those of name_cases.py, and every byte and spelling alone and behind a name."""
     yield b""
     for block in (FLAG, COMMENTS_AND_BLANKS, LEVELS, TABS, STRINGS_WITH_CONTROLS, NUMBERS,
                   OVER_127, NO_TOKEN, OPERATORS):
@@ -120,7 +119,6 @@ def picked():
         yield spelling + b"x"
         yield b"(" + spelling + b"1"
     yield from name_cases.sources()
-    yield from bracket_cases.sources()
     # many levels, closed at the end and closed by a line
     yield b"".join(b"  " * level + b"a\n" for level in range(40))
     yield b"".join(b"  " * level + b"a\n" for level in range(40)) + b"b"

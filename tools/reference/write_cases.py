@@ -90,14 +90,6 @@ STRINGS = [
     ("é", "é"), ("한국.α(ℊ,x·1)", "한국.α(ℊ, x·1)"), ("e\u0301+\ufb01", "e\u0301 + \ufb01"),
 ]
 
-# "Inside ( [ { a line feed is skipped like a space" (change 7), and in the text there is "no other blank".
-LINES = [
-    ("[\n  a,\n  b,\n]", "[a, b]"), ("[\n]", "[]"), ("{\n}", "{}"), ("t{\n}", "t{}"), ("f(\n)", "f()"), ("(\na\n)", "a"), ("(\na,\n)", "a,"), ("(a,\n   b)", "a, b"), ("[(a,\n)]", "[(a,)]"), ("(a\n+\nb)", "a + b"),
-    ("(a # c\n  + b)*c", "(a + b) * c"), ("{\n  'a': [1, 2], # c\n\n  'b': [\n\t3],\n}", '{"a": [1, 2], "b": [3]}'), ("f(\r\n  a,\r\n  b\r\n)", "f(a, b)"), ("x[\na\n][\nb]", "x[a][b]"), ("(\n))", "())"), ("(()\n))", "())"),
-    ("[a,\n())]", "[a, ())]"), ("[[()),\na], b]", "[[()), a], b]"), ("f(a,\n()))", "f(a, ()))"), ("(lambda\na,\nb:\na)", "lambda a, b: a"), ("(not\n- a)", "not - a"), ("(a\n<\nb\n<\nc)", "a < b < c"), ("['a\n',\n'(']", '["a\\n", "("]'),
-    ("t{\n#]\na}", "t{a}"), ("(a\n.b\n(c)\n[d])", "a.b(c)[d]"), ("(-\n1)", "- 1"), ("(\n-1)", "-1"), ("(a -\n1)", "a - 1"), ("(1.\nx)", "1.x"), ("{a\n:\nb\n,\nc\n:\nd}", "{a: b, c: d}"), ("{\n한,\n é}", "{한, é}"),
-]
-
 # The whole of a script, statement by statement.
 STATEMENTS = [
     # "one statement a line, each line ended by a line feed"; nothing of blank lines, comments and blanks stays
@@ -124,10 +116,6 @@ STATEMENTS = [
     ("class A:\n  def f():\n    class B:\n      def g():a\n", "class A:\n  def f():\n    class B:\n      def g():\n        a\n"),
     ("if a:\n  while b:\n    for c in d:\n      def e():f\ng\n", "if a:\n  while b:\n    for c in d:\n      def e():\n        f\ng\n"), ("\rif(a):b", "if a:\n  b\n"), ("if a:\r\n  b\r\nelse:\r\n  c\r\n", "if a:\n  b\nelse:\n  c\n"),
     ("def f():\n  'd'\n  x=0.10\n", 'def f():\n  "d"\n  x = 0.10\n'),
-    # over several lines
-    ("x = [\n1,\n2\n]\ny", "x = [1, 2]\ny\n"), ("def f(\n  a, # c\n  b,\n): return a", "def f(a, b):\n  return a\n"), ("if (\na\n):\n  b(\n c)\n  d\n", "if a:\n  b(c)\n  d\n"), ("while f(\na): b", "while f(a):\n  b\n"),
-    ("for a in [\nb,\n]: c", "for a in [b]:\n  c\n"), ("class A:\n  def f(\n    a):\n    b[\nc]\n", "class A:\n  def f(a):\n    b[c]\n"), ("\r(  \na)\n", "a\n"), ("if a:\n  b\n\r(c)\nd\n", "if a:\n  b\n  c\nd\n"), ("())\n[\na]\n", "())\n[a]\n"),
-    ("a;[\nb];c", "a\n[b]\nc\n"), ("return(\na,\nb)", "return a, b\n"), ("if a:b\nelif(\nc):d", "if a:\n  b\nelif c:\n  d\n"),
 ]
 
 # "17 where some block has no statement": "Block, opened at its colon: one or more Newlines, Indent, Lines as in Program, Dedent" (01) with no Line. The scanner gives a Dedent right behind
@@ -135,18 +123,18 @@ STATEMENTS = [
 EMPTY = [
     "if a:\n  ", "if a:\n\n\n  ", "if a: # c\n  ", "if a:\r\n  ", "if a:\n\r\n  ", "if a:\n#c\n   \n  ", "b\nif a:\n  ", "if a:b\nelif c:\n  ", "if a:b\nelif c:d\nelif e:\n  ", "if a:b\nelse:\n  ", "while a:\n  ", "for a in b:\n  ",
     "def f():\n  ", "class A:\n  def f():\n    ", "class A:\n  def f():a\n  def g():\n    ", "if a:\n  if b:\n    ", "if a:\n  b\n  while c:\n    ", "if a:\n  b\nelse:\n  for c in d:\n    ", "def f():\n  def g():\n    def h():\n      ",
-    "\rif(a):\n  ", "class A:\n  def f():\n    if a:b\n    else:\n      ", "if (\na):\n  ", "def f(\n):\n  ",
+    "\rif(a):\n  ", "class A:\n  def f():\n    if a:b\n    else:\n      ",
 ]
 # Such sources by one byte otherwise, which have a statement or are refused by the reader, which leaves the writer's slice: the reader's number.
 LIKE_EMPTY = [
     ("if a:\n", 15), ("if a:\n ", 7), ("if a:\n   ", 7), ("if a:\n  #", 15), ("if a:\n  \r", 15), ("if a:\n  \n", 15), ("if a:\n  b\n  ", 0), ("if a:\n  b\n", 0), ("if a:", 15), ("class A:\n  ", 14), ("if a:\n  b\n    ", 14), ("  ", 14), ("a\n  ", 14),
-    ("if a:\n  pass\nelse:\n", 15), ("if a:\n\t", 6), ("if a:\n  (\n  ", 14), ("if (a\n  ", 15),
+    ("if a:\n  pass\nelse:\n", 15), ("if a:\n\t", 6),
 ]
 
 
 def expressions():
     """Those that every place of a t takes alike."""
-    return [*PARENTHESES, *CHAINS, *NUMBERS, *LISTS, *TUPLES, *STRINGS, *LINES]
+    return [*PARENTHESES, *CHAINS, *NUMBERS, *LISTS, *TUPLES, *STRINGS]
 
 
 def scripts():

@@ -67,7 +67,7 @@ def by_chance(rng):
     for length in range(5):
         for source in itertools.product(b"at1-<,()\n \r'", repeat=length):
             yield bytes(source)
-    for _ in range(3000):
+    for _ in range(2000):
         yield generate.soup(rng, rng.randrange(1, 9))
         script = generate.script(rng, 2, 2)
         yield generate.damaged(rng, script)

@@ -17,14 +17,7 @@
 //! assert_eq!((error.number(), error.place()), (14, 1));
 //! assert!(matches!(reader.read(b"a ="), Err(Error::Cut { place: 3, .. })));
 //! assert!(matches!(reader.read(b"a =\nb = 1\n"), Err(Error::Missing { place: 3, .. })));
-//!
-//! let tree = reader.read(b"lifts = [\n  1, # at the gate\n  2,\n]\n").unwrap();
-//! assert_eq!(tree.root().children().count(), 1); // in brackets a line feed is a blank
-//! assert!(matches!(reader.read(b"lifts = [1, 2\n"), Err(Error::Cut { place: 14, .. })));
 //! ```
-//!
-//! In `(`, `[` and `{` a line feed is passed over like a space, and the spaces or tabs behind it are no indentation. All three sorts are counted together, a closer
-//! takes one away, and the empty tuple `())` has one closer more: behind `[()),` no bracket counts as open, and a line feed ends the line.
 //!
 //! The reader is one function without state, [`parse_source`], over slices that the caller lends. [`Reader`] owns such slices and grows them as a source
 //! asks; [`Tree`] is a checked view of what they hold. The writer, [`write_source`] and [`Reader::write`], gives a source's standard text. [`utf8_error`] is the
@@ -182,7 +175,7 @@ impl Reader {
     }
 
     /// Code, start and end of each token of the source that was read last, to write it too, Eof last. Empty where it was refused, but not where the writer
-    /// refuses what was read. Line feeds in brackets are none of them.
+    /// refuses what was read.
     pub fn tokens(&self) -> impl Iterator<Item = (u32, u32, u32)> + '_ {
         self.tokens[..self.filled].chunks_exact(3).map(|t| (t[0], t[1], t[2]))
     }

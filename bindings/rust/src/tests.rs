@@ -1,7 +1,6 @@
 use crate::*;
 
 mod comma;
-mod lines;
 mod refused;
 mod spelling;
 mod written;

@@ -67,8 +67,7 @@ impl std::error::Error for WriteError {
 }
 
 /// Reads a source as [`parse_source`](crate::parse_source) does, and writes its standard text to the start of `out`. Two sources with the same tree, places
-/// aside, with names, strings and the spellings of Floats compared by bytes, have the same text: comments, blank lines, line feeds in
-/// brackets and needless parentheses are not in it.
+/// aside, with names, strings and the spellings of Floats compared by bytes, have the same text: comments, blank lines and needless parentheses are not in it.
 ///
 /// Bytes of `out` behind the text are 0. Where the source is refused, `out` is as it was; where the writer refuses, by 17 or 18, all of it is 0. `tokens`,
 /// `text` and `tree` are in every case as [`parse_source`](crate::parse_source) leaves them. The text, read with room for its areas, is accepted with the same

@@ -2,8 +2,7 @@
 
 use crate::generate::CLASSES;
 use crate::has::Has;
-use crate::lines::{self, Lines};
-use crate::sides::{tokens_of, Made, Tried, NEVER};
+use crate::sides::{Made, Tried, NEVER};
 use plain::utf8::Checked;
 
 #[derive(Clone, Copy, Default)]
@@ -21,8 +20,6 @@ struct Row {
     /// Those accepted that have a Tuple of one without parentheses, and by its place.
     lone: u64,
     lone_in: [u64; 4],
-    /// Those with tokens that have a line feed inside brackets.
-    over_lines: u64,
     /// Those refused by 9 at a character beyond ASCII.
     stray: u64,
     unanswered: u64,
@@ -33,7 +30,7 @@ struct Row {
 /// The table's columns: name, width, and what is counted.
 type Column = (&'static str, usize, fn(&Row) -> u64);
 
-const COLUMNS: [Column; 16] = [
+const COLUMNS: [Column; 15] = [
     ("inputs", 10, |row| row.inputs),
     ("bytes", 12, |row| row.bytes),
     ("ASCII", 10, |row| row.ascii),
@@ -42,7 +39,6 @@ const COLUMNS: [Column; 16] = [
     ("(Float)", 9, |row| row.grouped),
     ("Float=", 9, |row| row.targets),
     ("E,", 9, |row| row.lone),
-    ("in ([{", 9, |row| row.over_lines),
     ("1-11", 10, |row| row.numbers[1..=11].iter().sum()),
     ("9 wide", 10, |row| row.stray),
     ("13", 10, |row| row.numbers[13]),
@@ -85,9 +81,6 @@ impl Checks {
 #[derive(Default)]
 pub struct Figures {
     rows: [Row; CLASSES.len()],
-    /// How many have each of `lines`, and how many of these are accepted.
-    lines: [[u64; 2]; lines::NAMES.len()],
-    accepted_over_lines: u64,
     checks: Checks,
 }
 
@@ -95,20 +88,6 @@ impl Figures {
     pub fn check_alone(&mut self, checked: Option<Checked>) {
         self.checks.count(checked);
         self.checks.alone += 1;
-    }
-
-    /// Of a source that has tokens.
-    pub fn count_lines(&mut self, class: usize, src: &[u8], made: &Made) {
-        let Some(answer) = made.answer.filter(|answer| matches!(answer.number, 0 | 13..=16)) else { return };
-        let found = tokens_of(src).map_or(Lines::default(), |tokens| lines::of(src, &tokens));
-        let over_lines = u64::from(found[..lines::OF_FEEDS].contains(&true));
-        let accepted = u64::from(answer.number == 0);
-        self.rows[class].over_lines += over_lines;
-        self.accepted_over_lines += over_lines * accepted;
-        for ([all, of_accepted], found) in self.lines.iter_mut().zip(found) {
-            *all += u64::from(found);
-            *of_accepted += u64::from(found) * accepted;
-        }
     }
 
     pub fn count(&mut self, class: usize, src: &[u8], made: Made, has: Has) {
@@ -142,7 +121,6 @@ impl Figures {
             total.grouped += row.grouped;
             total.targets += row.targets;
             total.lone += row.lone;
-            total.over_lines += row.over_lines;
             total.stray += row.stray;
             total.unanswered += row.unanswered;
             total.alike += row.alike;
@@ -154,19 +132,11 @@ impl Figures {
         total
     }
 
-    fn print_lines(&self, over_lines: u64) {
-        println!("read to tokens with a line feed inside brackets: {over_lines}, accepted {}", self.accepted_over_lines);
-        let named = lines::NAMES.iter().zip(self.lines).map(|(name, [all, accepted])| format!("{name} {all} ({accepted})"));
-        let named: Vec<_> = named.collect();
-        println!("  such {}", named[..lines::OF_FEEDS].join(", "));
-        println!("read to tokens with {}", named[lines::OF_FEEDS..].join(", "));
-    }
-
     pub fn print(&self, seconds: f64, differences: u32) {
         let total = self.total();
-        println!("{:<13} {}", "class", COLUMNS.map(|(name, width, _)| format!("{name:>width$}")).join(" "));
+        println!("{:<12} {}", "class", COLUMNS.map(|(name, width, _)| format!("{name:>width$}")).join(" "));
         for (name, row) in CLASSES.iter().map(|class| class.name).zip(&self.rows).chain([("all", &total)]) {
-            println!("{name:<13} {}", COLUMNS.map(|(_, width, count)| format!("{:>width$}", count(row))).join(" "));
+            println!("{name:<12} {}", COLUMNS.map(|(_, width, count)| format!("{:>width$}", count(row))).join(" "));
         }
         println!("ASCII only: {}", total.ascii);
         println!("accepted {}, with a name beyond ASCII: {}", total.numbers[0], total.named);
@@ -174,7 +144,6 @@ impl Figures {
         let [returned, target, value, alone] = total.lone_in;
         println!("accepted with one E and a trailing comma: {}", total.lone);
         println!("  in return {returned}, as a target {target}, as a value {value}, as an expression {alone}");
-        self.print_lines(total.over_lines);
         println!("refused by 9 at a character beyond ASCII: {}", total.stray);
         for (number, count) in total.numbers.iter().enumerate().filter(|&(number, _)| number != 0 && number != NEVER as usize) {
             println!("refused by {number:>2}: {count}");

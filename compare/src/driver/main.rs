@@ -16,7 +16,6 @@ mod check;
 mod figures;
 mod generate;
 mod has;
-mod lines;
 mod random;
 mod shrink;
 mod sides;
@@ -169,7 +168,6 @@ fn run(limits: &Limits) -> ExitCode {
         match compared {
             Ok(made) => {
                 let has = made.answer.map(|answer| Has::of(&case.src, answer, &sides.library)).unwrap_or_default();
-                figures.count_lines(class, &case.src, &made);
                 figures.count(class, &case.src, made, has);
             }
             Err(difference) => return found(&mut sides, case, difference, &figures, begun),

@@ -1,7 +1,6 @@
 //! One input put to both readers, and what they made of it.
 
 use crate::check::{Checks, WORDS};
-use plain::token::Token;
 use plain::trial::{try_program, Verdict};
 use plain::utf8::Checked;
 use plain::{areas, Answer};
@@ -181,7 +180,7 @@ impl Sides {
             return differ(format!("both answer {NEVER}"));
         }
         self.alike(reach)?;
-        answer.map_or(Ok(()), |answer| within_limits(answer, case.src.len()))?;
+        answer.map_or(Ok(()), within_limits)?;
         let tried = answer.map_or(Ok(Tried::SetAside), |answer| self.try_too(&case.src, answer))?;
         let checked = self.checks.compare(&case.src, case.check_words())?;
         Ok(Made { answer, checked, tried })
@@ -237,7 +236,9 @@ impl Sides {
         if !matches!(answer.number, 0 | 14..=16) {
             return Ok(Tried::SetAside);
         }
-        let Some(tokens) = tokens_of(src) else { return differ("scanned twice, refused once") };
+        let Some(Ok(tokens)) = std::str::from_utf8(src).ok().map(plain::scan::scan) else {
+            return differ("scanned twice, refused once");
+        };
         let fuel = 50_000 + 400 * tokens.len() as u64;
         match (try_program(src, &tokens, fuel), answer.number) {
             (Verdict::Spent, _) => Ok(Tried::Spent),
@@ -265,18 +266,10 @@ impl Sides {
     }
 }
 
-/// The plain reader's tokens.
-pub fn tokens_of(src: &[u8]) -> Option<Vec<Token>> {
-    std::str::from_utf8(src).ok().and_then(|text| plain::scan::scan(text).ok())
-}
-
-/// 01's limits: T at most n, also where line feeds are skipped (02, change 7); openings at most 10 T + 1; and nodes at most 2 T + 1, which by 02's change 5 "must be
-/// shown to hold" with its commas. The answer shows no nodes in a refusal: of some refusals tests/commas.rs asks it, of the nodes that the descent has written.
-fn within_limits(answer: Answer, n: usize) -> Result<(), Difference> {
+/// 01's limits: openings at most 10 T + 1; and nodes at most 2 T + 1, which by 02's change 5 "must be shown to hold" with its commas. The answer shows no nodes in a
+/// refusal: of some refusals tests/commas.rs asks it, of the nodes that the descent has written.
+fn within_limits(answer: Answer) -> Result<(), Difference> {
     let Answer { number, tokens, nodes, openings, .. } = answer;
-    if tokens as usize > n {
-        return differ(format!("{tokens} tokens for {n} bytes"));
-    }
     if matches!(number, 0 | 13..=16) && (openings > 10 * tokens + 1 || nodes > 2 * tokens + 1) {
         return differ(format!("{openings} openings and {nodes} nodes for {tokens} tokens"));
     }

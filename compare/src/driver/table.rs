@@ -82,9 +82,9 @@ fn print(rows: &[Row], [one, other]: [&str; 2], begun: Instant, differences: u32
     let mut all = Row::default();
     rows.iter().for_each(|row| all.add(row));
     let columns = ["inputs", "refused", "17", "18", "written", "bytes", "longest", one, other];
-    println!("{:<13} {}", "class", columns.map(|name| format!("{name:>11}")).join(" "));
+    println!("{:<12} {}", "class", columns.map(|name| format!("{name:>11}")).join(" "));
     for (name, row) in CLASSES.iter().map(|class| class.name).chain(["nests", "long"]).zip(rows).chain([("all", &all)]) {
-        println!("{name:<13} {}", row.words().map(|word| format!("{word:>11}")).join(" "));
+        println!("{name:<12} {}", row.words().map(|word| format!("{word:>11}")).join(" "));
     }
     println!("{} inputs, {:.0} seconds, differences: {differences}", all.inputs, begun.elapsed().as_secs_f64());
 }

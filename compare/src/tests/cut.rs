@@ -8,9 +8,10 @@ use super::refusal;
 fn at_the_end_of_a_line() {
     #[rustfmt::skip]
     let only_an_expression = [
-        "x =", "a, =", "return", "if", "while", "for a in", "if a: b\nelif", "lambda:", "lambda a, b:", "x = lambda a:", "not", "-", "+", "not not",
-        "a or", "a and", "a ==", "a !=", "a <", "a < b <=", "a >", "a >=", "a +", "a -", "a *", "a //", "a /", "a %", "a * -", "(a) +", "[a] < -",
-        "if a: return", "if a: x =", "a; b =", "if a:\n  b\n  c =", "def f(a): return", "class A:\n  def f():\n    return",
+        "x =", "a, =", "return", "if", "while", "for a in", "if a: b\nelif", "lambda:", "lambda a, b:", "x = lambda a:", "x[", "x[y[", "{1:",
+        "{1: 2, 3:", "not", "-", "+", "not not", "a or", "a and", "a ==", "a !=", "a <", "a < b <=", "a >", "a >=", "a +", "a -", "a *", "a //",
+        "a /", "a %", "a * -", "(a +", "[a, not", "f(a, b or", "t{a <", "{a: b +", "{a: lambda:", "if a: return", "if a: x =", "a; b =", "a.b[",
+        "if a:\n  b\n  c =", "def f(a): return", "class A:\n  def f():\n    return",
     ];
     for src in only_an_expression {
         let place = src.len() as u32;
@@ -22,33 +23,13 @@ fn at_the_end_of_a_line() {
     }
     #[rustfmt::skip]
     let something_else_too = [
-        "()", "lambda", "lambda a", "lambda a,", "a.", "def", "def f", "def f()", "class", "class A", "for", "for a", "if a", "while a",
+        "(", "()", "(a", "(a,", "f(", "f(a", "f(a,", "[", "[a", "[1,", "{", "{a", "{a,", "{a: b", "{a: b,", "t{", "t{a,", "x[a", "lambda", "lambda a",
+        "lambda a,", "a.", "def", "def f", "def f(", "def f(a", "def f(a,", "def f()", "class", "class A", "for", "for a", "if a", "while a",
         "for a in b", "if a: b\nelif c", "if a: b\nelse",
     ];
     for src in something_else_too {
         assert_eq!(refusal(src), (15, src.len() as u32), "{src:?}");
         assert_eq!(refusal(&format!("{src}\n")), (14, src.len() as u32), "{src:?}");
-    }
-}
-
-/// With a bracket open the line feed is no token, so the end is met; in a block the closing Dedent.
-#[test]
-fn with_a_bracket_open() {
-    #[rustfmt::skip]
-    let only_an_expression = [
-        "x[", "x[y[", "{1:", "{1: 2, 3:", "(a +", "[a, not", "f(a, b or", "t{a <", "{a: b +", "{a: lambda:", "a.b[", "((a) *",
-    ];
-    #[rustfmt::skip]
-    let something_else_too = [
-        "(", "(a", "(a,", "f(", "f(a", "f(a,", "[", "[a", "[1,", "{", "{a", "{a,", "{a: b", "{a: b,", "t{", "t{a,", "x[a", "def f(", "def f(a", "def f(a,",
-        "(lambda", "[a.",
-    ];
-    for (cut, sources) in [(16, &only_an_expression[..]), (14, &something_else_too)] {
-        for (src, end) in sources.iter().flat_map(|src| ["", "\n", " # (\n", "\n\n\t \r\n", "\n   "].map(|end| (src, end))) {
-            let (alone, body) = (format!("{src}{end}"), format!("if a:\n  {src}{end}"));
-            assert_eq!(refusal(&alone), (15, alone.len() as u32), "{alone:?}");
-            assert_eq!(refusal(&body), (cut, body.len() as u32), "{body:?}");
-        }
     }
 }
 
@@ -64,11 +45,11 @@ fn at_other_tokens() {
         ("if a:\n  if b:\n", 14, 14),
         ("if a:\n  (", 14, 9),
         ("if a:\n  if b:\n    not", 16, 21),
-        // A carriage return before the sign: the spaces behind it are counted, so a Dedent stands before `c`. An opener clears the flag.
+        // A carriage return before the sign: the spaces behind it are counted, so a Dedent stands before `c`.
         ("if a:\n  b\n\r-c\n", 16, 12),
-        ("if a:\n  b\n\r-", 16, 12),
-        ("if a:\n  b\n\r(c\n", 14, 14),
+        ("if a:\n  b\n\r(c\n", 14, 12),
         ("if a:\n  b\n\r(", 14, 12),
+        ("if a:\n  b\n\r-", 16, 12),
         // Neither Newline nor Dedent.
         ("x = )", 14, 4),
         ("x = ,", 14, 4),
@@ -91,13 +72,8 @@ fn at_other_tokens() {
 fn at_the_depth() {
     let deep = "f[".repeat(64);
     assert_eq!(refusal(&format!("{deep}a")), (13, 128));
-    assert_eq!(refusal(&format!("{deep}\n")), (15, 129));
+    assert_eq!(refusal(&format!("{deep}\n")), (16, 128));
     assert_eq!(refusal(&deep), (15, 128));
-    let blocks: String = (0..63).map(|level| format!("{}if a:\n", "  ".repeat(level))).collect();
-    let body = format!("{blocks}{}b[", "  ".repeat(63));
-    assert_eq!(refusal(&body), (16, body.len() as u32));
-    assert_eq!(refusal(&format!("{body}a")), (13, body.len() as u32));
-    assert_eq!(refusal(&format!("{}\n", "lambda:".repeat(64))), (16, 448));
-    assert_eq!(refusal(&format!("{}\n", "(".repeat(64))), (15, 65));
+    assert_eq!(refusal(&format!("{}\n", "(".repeat(64))), (14, 64));
     assert_eq!(refusal(&format!("{deep})")), (14, 128));
 }

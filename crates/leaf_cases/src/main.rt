@@ -13,8 +13,8 @@ mod answers;
 
 use answers::{print_characters, print_float, print_int, print_string, print_tokens, print_utf8};
 use cases::hex::unhex;
+use cases::lines::line_end;
 use cases::print;
-use source::line_end;
 
 // The result of a case whose bytes are written in hexadecimal.
 fn print_bytes_case(letter: u8, hex: &[u8]) {

@@ -1,13 +1,14 @@
 -- One more turn than there are bytes left is enough: any more changes nothing. So the turns can be forgotten (`from_is`).
 -- Assumes nothing.
 use mathlib.Core.Path.{◌≡◌, refl, ap}
-use mathlib.Core.Bool.{Bool, true, false, cond}
+use mathlib.Core.Bool.{Bool, true, false, cond, ◌||◌}
 use mathlib.Core.List.{List, [], ◌∷◌}
 use Prim.Native.Nat.{ℕ, zero, suc, ◌+◌, ◌-◌, ◌%◌, ◌<◌, ◌≤◌}
 use native.Mathlib.Omega.{arith}
-use lib.Dec.{ltb}
+use lib.Dec.{eqb, ltb}
 use lib.ListN.{length, replicate}
 use Rattle.source.specs.Bytes.{part}
+use Rattle.token.specs.Code as Code
 use Rattle.tokens.specs.Token.{token}
 use Rattle.literal.specs.declared.Lexed.{Lexed}
 use Rattle.literal.specs.declared.Lexed.TheVariants.{Value, Refused}
@@ -17,7 +18,6 @@ use Rattle.raw_token.specs.declared.RawToken.TheVariants.{Found, NoMatch}
 use Rattle.raw_token.proofs.Within.{token_within}
 use Rattle.spacing.specs.Gap.{gap_end_lem}
 use Rattle.spacing.specs.Indentation.{step, indentation_at}
-use Rattle.spacing.specs.Brackets.{brackets_after, flag_after, inside}
 use Rattle.lexer.specs.Value.{value_of, text_of}
 use Rattle.lexer.specs.Scan.{prepend, mark, lexer, Rest, marks_then, indent_then, closed, value_then, found_then, token_then, scan_from, token_list}
 use Rattle.lexer.specs.declared.Lexer.{Lexer}
@@ -33,9 +33,9 @@ Reached n x = (x.at ≤ n) × (x.top % step ≡ 0)
 abbrev Alike : ℕ → ℕ → Rest → Rest → Type 0
 Alike n at rest rest' = (y : Lexer) → at ≤ y.at → Reached n y → rest y ≡ rest' y
 
-pub gap_from : (k : ℕ) (s : List ℕ) (i : ℕ) → i ≤ gap_end_lem (inside k) s i
+pub gap_from : (s : List ℕ) (i : ℕ) → i ≤ gap_end_lem s i
 unfolding gap_end_lem
-gap_from k s i = omega arith
+gap_from s i = omega arith
 
 module _ (s : List ℕ) (x : Lexer) (reached : Reached (length s) x) (rest rest' : Rest) where
   pub indent_alike : Alike (length s) x.at rest rest' → indent_then s rest x ≡ indent_then s rest' x
@@ -44,8 +44,8 @@ module _ (s : List ℕ) (x : Lexer) (reached : Reached (length s) x) (rest rest'
     where
       by_flag : (t : Bool) (i : Indentation) → Known (length s) x.at x.top i → cond t (marks_then rest x i) (rest x) ≡ cond t (marks_then rest' x i) (rest' x)
       by_flag false i k = h x (omega arith) reached
-      by_flag true (Blank end) k = h (lexer end true x.top x.brackets x.count x.used) k.0 (k.1, reached.1)
-      by_flag true (Level end code n top) k = ap (prepend (replicate n (mark code x.at end)) []) (h (lexer end false top x.brackets (x.count + n) x.used) k.0 (k.1, k.2))
+      by_flag true (Blank end) k = h (lexer end true x.top x.count x.used) k.0 (k.1, reached.1)
+      by_flag true (Level end code n top) k = ap (prepend (replicate n (mark code x.at end)) []) (h (lexer end false top (x.count + n) x.used) k.0 (k.1, k.2))
       by_flag true (No number place) k = refl
 
   pub token_alike : Alike (length s) (x.at + 1) rest rest' → token_then s rest x ≡ token_then s rest' x
@@ -54,12 +54,12 @@ module _ (s : List ℕ) (x : Lexer) (reached : Reached (length s) x) (rest rest'
       by_token (ltb start (length s)) (token_at_lem s start) (token_within s start)
     where
       start : ℕ
-      start = gap_end_lem (inside x.brackets) s x.at
+      start = gap_end_lem s x.at
 
       by_value : (code end : ℕ) (bs : List ℕ) (v : Lexed) → start < end → end ≤ length s → value_then rest x code start end bs v ≡ value_then rest' x code start end bs v
       by_value code end bs (Value v) a b =
           ap (prepend (token code start end v ∷ []) bs)
-          (h (lexer end (flag_after code x.flag) x.top (brackets_after code x.brackets) (x.count + 1) (x.used + length bs)) (omega (arith, gap_from x.brackets s x.at)) (b, reached.1))
+          (h (lexer end (eqb code Code.Newline || x.flag) x.top (x.count + 1) (x.used + length bs)) (omega (arith, gap_from s x.at)) (b, reached.1))
       by_value code end bs Refused a b = refl
 
       by_token : (t : Bool) (k : RawToken) → ((code end : ℕ) → k ≡ Found code end → (start < end) × (end ≤ length s))
@@ -88,6 +88,6 @@ from_is s x r =
     indent_alike s x r (token_then s (scan_from (length s - x.at) s)) (token_then s (from s))
     (λ y a p. token_alike s y p (scan_from (length s - x.at) s) (from s) (λ z b q. enough (length s - x.at) (suc (length s - z.at)) s z q (omega (arith, q.0)) (omega arith)))
 
-pub list_is : (s : List ℕ) → token_list s ≡ from s (lexer 0 true 0 0 0 0)
+pub list_is : (s : List ℕ) → token_list s ≡ from s (lexer 0 true 0 0 0)
 unfolding from token_list
-list_is s = enough (suc (length s)) (suc (length s - 0)) s (lexer 0 true 0 0 0 0) (omega arith, omega arith) (omega arith) (omega arith)
+list_is s = enough (suc (length s)) (suc (length s - 0)) s (lexer 0 true 0 0 0) (omega arith, omega arith) (omega arith) (omega arith)

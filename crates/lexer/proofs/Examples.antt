@@ -1,18 +1,15 @@
--- What the definition says of short sources: 01's starred scripts as far as they are lexical, the rules of its section Indentation, and 02's brackets, computed.
+-- What the definition says of short sources: 01's starred scripts as far as they are lexical, and the rules of its section Indentation, computed.
 -- Assumes nothing.
-use mathlib.Core.Path.{◌≡◌, refl, sym, ap}
+use mathlib.Core.Path.{◌≡◌, refl}
 use mathlib.Core.Bool.{true}
-use mathlib.Core.List.{List, [], ◌∷◌, ◌++◌}
-use Prim.Native.Nat.{ℕ, zero, suc}
-use native.Mathlib.Omega.{arith}
+use mathlib.Core.List.{List, [], ◌∷◌}
+use Prim.Native.Nat.{ℕ}
 use lib.IntN.{negsuc}
-use lib.ListN.{replicate}
 use Rattle.source.specs.Text.{bytes}
 use Rattle.token.specs.Code as C
-use Rattle.tokens.specs.Token.{Token, token}
+use Rattle.tokens.specs.Token.{token}
 use Rattle.literal.specs.declared.Literal.TheVariants as L
 use Rattle.lexer.specs.Scan.{scanned, mark, token_list}
-use Rattle.lexer.specs.Lines.{is_layout, brackets_behind, Lined}
 use Rattle.lexer.proofs.Computed.{computed}
 use Rattle.lexer.specs.Steps.{Left, filled, none, left}
 
@@ -124,54 +121,6 @@ two_levels = refl
 no_level : says (bytes "a\n  b\n c") ≡ none 8 6
 unfolding says
 no_level = refl
-
--- ---- brackets (02, change 7)
-
--- "Inside ( [ { a line feed is skipped like a space and the spaces after it, or tabs, count for nothing"; a comment there ends with its line
-inside_brackets :
-    (says (bytes "f(\n  a,\n)") ≡ filled (C.Identifier ∷ 0 ∷ 1 ∷ C.LParen ∷ 1 ∷ 2 ∷ C.Identifier ∷ 5 ∷ 6 ∷ C.Comma ∷ 6 ∷ 7 ∷ C.RParen ∷ 8 ∷ 9 ∷ C.Eof ∷ 9 ∷ 9 ∷ []) [])
-    × (says (bytes "[a # )\n\t, b]\n") ≡ filled (C.LBracket ∷ 0 ∷ 1 ∷ C.Identifier ∷ 1 ∷ 2 ∷ C.Comma ∷ 8 ∷ 9 ∷ C.Identifier ∷ 10 ∷ 11 ∷ C.RBracket ∷ 11 ∷ 12 ∷ C.Newline ∷ 12 ∷ 13 ∷ C.Eof ∷ 13 ∷ 13 ∷ []) [])
-    × (says (bytes "{a:\n1}") ≡ filled (C.LBrace ∷ 0 ∷ 1 ∷ C.Identifier ∷ 1 ∷ 2 ∷ C.Colon ∷ 2 ∷ 3 ∷ C.Int ∷ 4 ∷ 5 ∷ C.RBrace ∷ 5 ∷ 6 ∷ C.Eof ∷ 6 ∷ 6 ∷ []) [])
-unfolding says
-inside_brackets = (refl, refl, refl)
-
--- "The scanner counts open brackets of all three sorts together; a closer at zero leaves zero .. and inside means a count above zero, so not after `[()),`"
-bracket_count :
-    (says (bytes "(a]\n{") ≡ filled (C.LParen ∷ 0 ∷ 1 ∷ C.Identifier ∷ 1 ∷ 2 ∷ C.RBracket ∷ 2 ∷ 3 ∷ C.Newline ∷ 3 ∷ 4 ∷ C.LBrace ∷ 4 ∷ 5 ∷ C.Eof ∷ 5 ∷ 5 ∷ []) [])
-    × (says (bytes "a)\n(b") ≡ filled (C.Identifier ∷ 0 ∷ 1 ∷ C.RParen ∷ 1 ∷ 2 ∷ C.Newline ∷ 2 ∷ 3 ∷ C.LParen ∷ 3 ∷ 4 ∷ C.Identifier ∷ 4 ∷ 5 ∷ C.Eof ∷ 5 ∷ 5 ∷ []) [])
-    × (says (bytes "[()),\na]") ≡ filled (C.LBracket ∷ 0 ∷ 1 ∷ C.LParen ∷ 1 ∷ 2 ∷ C.RParen ∷ 2 ∷ 3 ∷ C.RParen ∷ 3 ∷ 4 ∷ C.Comma ∷ 4 ∷ 5 ∷ C.Newline ∷ 5 ∷ 6 ∷ C.Identifier ∷ 6 ∷ 7 ∷ C.RBracket ∷ 7 ∷ 8 ∷ C.Eof ∷ 8 ∷ 8 ∷ []) [])
-unfolding says
-bracket_count = (refl, refl, refl)
-
--- "an opener clears the flag"; a closer leaves it
-opener_clears :
-    (says (bytes "\r(  a)") ≡ filled (C.LParen ∷ 1 ∷ 2 ∷ C.Identifier ∷ 4 ∷ 5 ∷ C.RParen ∷ 5 ∷ 6 ∷ C.Eof ∷ 6 ∷ 6 ∷ []) [])
-    × (says (bytes "\r)  a") ≡ filled (C.RParen ∷ 1 ∷ 2 ∷ C.Indent ∷ 2 ∷ 4 ∷ C.Identifier ∷ 4 ∷ 5 ∷ C.Dedent ∷ 5 ∷ 5 ∷ C.Eof ∷ 5 ∷ 5 ∷ []) [])
-unfolding says
-opener_clears = (refl, refl)
-
--- "save the closing Dedents at the end": no spaces are counted there
-closing_inside : says (bytes "if a:\n  (b\n  ") ≡ filled (C.If ∷ 0 ∷ 2 ∷ C.Identifier ∷ 3 ∷ 4 ∷ C.Colon ∷ 4 ∷ 5 ∷ C.Newline ∷ 5 ∷ 6 ∷ C.Indent ∷ 6 ∷ 8 ∷ C.LParen ∷ 8 ∷ 9 ∷ C.Identifier ∷ 9 ∷ 10 ∷ C.Dedent ∷ 13 ∷ 13 ∷ C.Eof ∷ 13 ∷ 13 ∷ []) []
-unfolding says
-closing_inside = refl
-
--- "Newline, Indent and Dedent come only with no bracket open": a Newline behind an opener is none
-no_newline_inside : Lined 2 0 (mark C.LParen 0 1 ∷ mark C.Newline 1 2 ∷ mark C.Eof 2 2 ∷ []) → ⊥
-no_newline_inside l = go l.front l.closing l.all l.outside
-  where
-    other : (m : ℕ) (t : Token) (ts : List Token) → (t.code ≡ C.Dedent → ⊥) → (t.code ≡ C.Eof → ⊥) → t ∷ ts ≡ replicate m (mark C.Dedent 2 2) ++ mark C.Eof 2 2 ∷ [] → ⊥
-    other zero t ts d e q = let r : t ≡ mark C.Eof 2 2 = cc in e (ap (λ (u : Token). u.code) r)
-    other (suc m) t ts d e q = let r : t ≡ mark C.Dedent 2 2 = cc in d (ap (λ (u : Token). u.code) r)
-
-    go : (front : List Token) (m : ℕ) → mark C.LParen 0 1 ∷ mark C.Newline 1 2 ∷ mark C.Eof 2 2 ∷ [] ≡ front ++ (replicate m (mark C.Dedent 2 2) ++ mark C.Eof 2 2 ∷ [])
-        → ((before : List Token) (t : Token) (after : List Token) → front ≡ before ++ t ∷ after → is_layout t.code ≡ true → brackets_behind 0 before ≡ 0) → ⊥
-    go [] m q o = other m (mark C.LParen 0 1) (mark C.Newline 1 2 ∷ mark C.Eof 2 2 ∷ []) (omega arith) (omega arith) q
-    go (t ∷ []) m q o = other m (mark C.Newline 1 2) (mark C.Eof 2 2 ∷ []) (omega arith) (omega arith) cc
-    go (t ∷ u ∷ ts) m q o =
-        let a : mark C.LParen 0 1 ≡ t = cc in
-        let b : mark C.Newline 1 2 ≡ u = cc in
-        let z : brackets_behind 0 (mark C.LParen 0 1 ∷ []) ≡ 0 = o (mark C.LParen 0 1 ∷ []) u ts (ap (λ (w : Token). w ∷ u ∷ ts) (sym a)) (ap (λ (w : Token). is_layout w.code) (sym b)) in
-        omega arith
 
 -- ---- strings, and characters over 127
 

@@ -1,10 +1,9 @@
 -- What the functions that find a token have done, from what their calls have done.
 -- Assumes nothing.
 use mathlib.Core.Path.{◌≡◌, refl, sym, ap, ◌∙◌, subst}
-use mathlib.Core.Bool.{Bool, true, false, cond}
+use mathlib.Core.Bool.{Bool, true, false, cond, ◌||◌}
 use mathlib.Core.List.{List, [], ◌∷◌}
 use Prim.Native.Nat.{ℕ, ◌+◌, ◌-◌, ◌*◌, ◌<◌, ◌≤◌, zero-le}
-use native.Mathlib.Nat.{le_refl}
 use native.Mathlib.Omega.{arith}
 use lib.Dec.{eqb}
 use lib.ListN.{length, take}
@@ -22,11 +21,9 @@ use Rattle.raw_token.specs.Table.{token_at_lem}
 use Rattle.raw_token.specs.declared.RawToken.{RawToken}
 use Rattle.raw_token.specs.declared.RawToken.TheVariants.{Found}
 use Rattle.spacing.specs.Gap.{gap_end_lem}
-use Rattle.spacing.specs.Brackets.{brackets_after, flag_after, inside}
-use Rattle.spacing.proofs.Counted.{bracket_paid}
 use Rattle.lexer.specs.Value.{value_of, refusal_of, text_of}
 use Rattle.lexer.specs.Scan.{Scan, refused, lexer, Rest, indent_then, closed, value_then, found_then, token_then}
-use Rattle.lexer.specs.Steps.{Paid, Exact, none, so_far, taken_of, TurnedWithin, Marks, Turns, Onward, Goes}
+use Rattle.lexer.specs.Steps.{Paid, Exact, none, so_far, taken_of, TurnedWithin, Marks, Turns}
 use Rattle.lexer.specs.declared.Lexer.{Lexer}
 use Rattle.lexer.specs.declared.Marked.{Marked}
 use Rattle.lexer.specs.declared.Marked.TheVariants as M
@@ -60,34 +57,23 @@ module _ (s : List ℕ) (x : Lexer) (paid : Paid (length s) x) (start code end :
           omega (arith, text_short code (part s start end), length_part s start end to, paid.text_paid)
       go Refused q = let z : ◌≡◌ {A = ℕ} 0 1 = cc in absurd (omega arith)
 
-  -- the state behind the token
-  abbrev after : ℕ → Lexer
-  after u = lexer end (flag_after code x.flag) x.top (brackets_after code x.brackets) (x.count + 1) u
-
-  found_at : (u : ℕ) (tokens text tokens' text' : List ℕ) → Exact s tokens text
+  pub found-on : (u : ℕ) (tokens text tokens' text' : List ℕ) → Exact s tokens text
       → K.Used u ≡ taken_of (value_of code (part s start end) x.used) (x.used + length (text_of code (part s start end)))
       → text' ≡ sets text x.used (text_of code (part s start end)) → tokens' ≡ sets tokens (3 * x.count) (code ∷ start ∷ end ∷ [])
-      → Turns (length s) (λ (rest : Rest). found_then s rest x start (Found code end)) x (T.On (after u)) tokens text tokens' text'
-  found_at u tokens text tokens' text' exact e b a =
+      → Turns (length s) (λ (rest : Rest). found_then s rest x start (Found code end)) x (T.On (lexer end (eqb code Code.Newline || x.flag) x.top (x.count + 1) u)) tokens text tokens' text'
+  found-on u tokens text tokens' text' exact e b a =
       record {
         is = λ rest. go rest (value_of code (part s start end) x.used) e;
-        within = (record { within = to; even = paid.even; tokens_paid = omega (arith, paid.tokens_paid); text_paid = found_room u e; brackets_paid = bracket_paid code x.brackets x.at end paid.brackets_paid (omega arith) }, omega arith);
+        within = (record { within = to; even = paid.even; tokens_paid = omega (arith, paid.tokens_paid); text_paid = found_room u e }, omega arith);
       }
     where
       go : (rest : Rest) (v : Lexed) → K.Used u ≡ taken_of v (x.used + length (text_of code (part s start end)))
-          → so_far tokens text x (value_then rest x code start end (text_of code (part s start end)) v) ≡ so_far tokens' text' (after u) (rest (after u))
+          → so_far tokens text x (value_then rest x code start end (text_of code (part s start end)) v) ≡ so_far tokens' text' (lexer end (eqb code Code.Newline || x.flag) x.top (x.count + 1) u) (rest (lexer end (eqb code Code.Newline || x.flag) x.top (x.count + 1) u))
       go rest (Value w) q =
           let f : u ≡ x.used + length (text_of code (part s start end)) = cc in
           let r : u ≤ end = found_room u e in
-          rw (← f) (wrote tokens x.count (token code start end w ∷ []) tokens' (x.count + 1) text (text_of code (part s start end)) text' x.used u a refl (omega (arith, exact.tokens_long, paid.tokens_paid)) (ap (take u) b ∙ take_sets text x.used u (text_of code (part s start end)) f (omega (arith, exact.text_long))) (rest (after u)))
+          rw (← f) (wrote tokens x.count (token code start end w ∷ []) tokens' (x.count + 1) text (text_of code (part s start end)) text' x.used u a refl (omega (arith, exact.tokens_long, paid.tokens_paid)) (ap (take u) b ∙ take_sets text x.used u (text_of code (part s start end)) f (omega (arith, exact.text_long))) (rest (lexer end (eqb code Code.Newline || x.flag) x.top (x.count + 1) u)))
       go rest Refused q = let z : ◌≡◌ {A = ℕ} 0 1 = cc in absurd (omega arith)
-
-  pub found-on : (u : ℕ) (flag : Bool) (brackets : ℕ) (tokens text tokens' text' : List ℕ) → Exact s tokens text
-      → K.Used u ≡ taken_of (value_of code (part s start end) x.used) (x.used + length (text_of code (part s start end)))
-      → text' ≡ sets text x.used (text_of code (part s start end)) → tokens' ≡ sets tokens (3 * x.count) (code ∷ start ∷ end ∷ [])
-      → flag ≡ flag_after code x.flag → brackets ≡ brackets_after code x.brackets
-      → Turns (length s) (λ (rest : Rest). found_then s rest x start (Found code end)) x (T.On (lexer end flag x.top brackets (x.count + 1) u)) tokens text tokens' text'
-  found-on u flag brackets tokens text tokens' text' exact e b a f k = rw (f, k) (found_at u tokens text tokens' text' exact e b a)
 
   pub found_no : (number : ℕ) (tokens text text' : List ℕ) → number ≡ refusal_of code
       → K.Refused ≡ taken_of (value_of code (part s start end) x.used) (x.used + length (text_of code (part s start end)))
@@ -108,7 +94,7 @@ pub retold : (n : ℕ) (scan scan' : Rest → Scan) (x : Lexer) (r : Turn) (toke
 retold n scan scan' x r tokens text tokens' text' e t =
     record { is = λ rest. ap (so_far tokens text x) (e rest) ∙ t.is rest; within = t.within }
 
-module _ (s : List ℕ) (x : Lexer) (start : ℕ) (is_start_lem : start ≡ gap_end_lem (inside x.brackets) s x.at) where
+module _ (s : List ℕ) (x : Lexer) (start : ℕ) (is_start_lem : start ≡ gap_end_lem s x.at) where
   pub next_closed : length s ≤ start → (rest : Rest) → token_then s rest x ≡ closed (length s) x
   unfolding token_then
   next_closed h rest = rw (← is_start_lem, le-ltb start (length s) h)
@@ -120,70 +106,24 @@ module _ (s : List ℕ) (x : Lexer) (start : ℕ) (is_start_lem : start ≡ gap_
   pub refused_at : (number n : ℕ) (scan : Rest → Scan) (tokens text : List ℕ) → ((rest : Rest) → scan rest ≡ refused number start) → Turns n scan x (T.No number start) tokens text tokens text
   refused_at number n scan tokens text e = record { is = λ rest. ap (so_far tokens text x) (e rest); within = tt }
 
--- ---- a line's tokens
+-- ---- a line's spaces, and then a token
 
 later : (n : ℕ) (x y : Lexer) → x.at ≤ y.at → (r : Turn) → TurnedWithin n y r → TurnedWithin n x r
 later n x y h (T.On z) w = (w.0, omega arith)
 later n x y h (T.End count used) w = w
 later n x y h (T.No number place) w = w
 
--- what hands on a state with the flag set
-pub flagged_on : (z : Lexer) → z.flag ≡ true → (y : Lexer) → T.On z ≡ T.On y → y.flag ≡ true
-flagged_on z f y e = let q : z ≡ y = cc in subst (λ (w : Lexer). w.flag ≡ true) q f
-
-pub flagged_end : (count used : ℕ) (y : Lexer) → T.End count used ≡ T.On y → y.flag ≡ true
-flagged_end count used y e = let z : ◌≡◌ {A = ℕ} 0 1 = cc in absurd (omega arith)
-
-pub flagged_no : (number place : ℕ) (y : Lexer) → T.No number place ≡ T.On y → y.flag ≡ true
-flagged_no number place y e = let z : ◌≡◌ {A = ℕ} 0 1 = cc in absurd (omega arith)
-
--- from the state x the scan has come to the state y, by turns
-pub record Come (s : List ℕ) (x y : Lexer) (tokens₀ text₀ tokens text : List ℕ) : Type 0 where
-  pub paid : Paid (length s) y
-  pub further : x.at ≤ y.at
-  pub is : (rest : Rest) → Onward s rest → so_far tokens₀ text₀ x (token_then s rest x) ≡ so_far tokens text y (token_then s rest y)
-
-pub come_first : (s : List ℕ) (x : Lexer) (tokens text : List ℕ) → Paid (length s) x → Come s x x tokens text tokens text
-come_first s x tokens text p = record { paid = p; further = le_refl x.at; is = λ rest o. refl }
-
-module _ (s : List ℕ) (x y : Lexer) (r : Turn) (tokens₀ text₀ tokens text tokens' text' : List ℕ) (come : Come s x y tokens₀ text₀ tokens text) (t : Turns (length s) (λ (rest : Rest). token_then s rest y) y r tokens text tokens' text') where
-  -- the line ends, or all does
-  pub come_to : (q : Turn) → r ≡ q → ((z : Lexer) → q ≡ T.On z → z.flag ≡ true) → Goes s (λ (rest : Rest). token_then s rest x) x q tokens₀ text₀ tokens' text'
-  come_to q e f =
-      let u = subst (λ (z : Turn). Turns (length s) (λ (rest : Rest). token_then s rest y) y z tokens text tokens' text') e t in
-      record { is = λ rest o. come.is rest o ∙ u.is rest; within = later (length s) x y come.further q u.within; flagged = f }
-
-  -- with the flag clear it goes on
-  pub come_on : (z : Lexer) → r ≡ T.On z → z.flag ≡ false → Come s x z tokens₀ text₀ tokens' text'
-  unfolding indent_then
-  come_on z e f =
-      let u = subst (λ (q : Turn). Turns (length s) (λ (rest : Rest). token_then s rest y) y q tokens text tokens' text') e t in
-      let w = u.within in
-      let plain : (rest : Rest) → indent_then s (token_then s rest) z ≡ token_then s rest z = λ rest. rw f in
-      record {
-        paid = w.0;
-        further = omega (arith, come.further, w.1);
-        is = λ rest o. come.is rest o ∙ u.is rest ∙ ap (so_far tokens' text' z) (o z w.0 ∙ plain rest);
-      }
-
-  pub come_further : (z : Lexer) → r ≡ T.On z → (y.at < z.at) × (z.at ≤ length s)
-  come_further z e =
-      let w = (subst (λ (q : Turn). Turns (length s) (λ (rest : Rest). token_then s rest y) y q tokens text tokens' text') e t).within in
-      (w.1, w.0.within)
-
--- ---- a line's spaces, and then its tokens
-
 module _ (s : List ℕ) (x : Lexer) (r : Marked) (tokens text tokens₁ : List ℕ) (m : Marks s x r tokens tokens₁) where
   pub marked_on : (y : Lexer) → r ≡ M.On y → Paid (length s) y
   marked_on y e = (subst (λ (q : Marked). Marks s x q tokens tokens₁) e m).within.0
 
-  pub then_tokens : (y : Lexer) → r ≡ M.On y → (q : Turn) (tokens' text' : List ℕ) → Goes s (λ (rest : Rest). token_then s rest y) y q tokens₁ text tokens' text'
-      → Goes s (λ (rest : Rest). indent_then s (token_then s rest) x) x q tokens text tokens' text'
-  then_tokens y e q tokens' text' t =
+  pub then_token : (y : Lexer) → r ≡ M.On y → (q : Turn) (tokens' text' : List ℕ) → Turns (length s) (λ (rest : Rest). token_then s rest y) y q tokens₁ text tokens' text'
+      → Turns (length s) (λ (rest : Rest). indent_then s (token_then s rest) x) x q tokens text tokens' text'
+  then_token y e q tokens' text' t =
       let n = subst (λ (z : Marked). Marks s x z tokens tokens₁) e m in
-      record { is = λ rest o. n.is (token_then s rest) text ∙ t.is rest o; within = later (length s) x y n.within.1 q t.within; flagged = t.flagged }
+      record { is = λ rest. n.is (token_then s rest) text ∙ t.is rest; within = later (length s) x y n.within.1 q t.within }
 
-  pub then_no : (number place : ℕ) → r ≡ M.No number place → Goes s (λ (rest : Rest). indent_then s (token_then s rest) x) x (T.No number place) tokens text tokens₁ text
+  pub then_no : (number place : ℕ) → r ≡ M.No number place → Turns (length s) (λ (rest : Rest). indent_then s (token_then s rest) x) x (T.No number place) tokens text tokens₁ text
   then_no number place e =
       let n = subst (λ (z : Marked). Marks s x z tokens tokens₁) e m in
-      record { is = λ rest o. n.is (token_then s rest) text; within = tt; flagged = flagged_no number place }
+      record { is = λ rest. n.is (token_then s rest) text; within = tt }

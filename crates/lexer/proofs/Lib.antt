@@ -7,7 +7,6 @@ pub mod Running
 pub mod Promise
 pub mod Properties
 pub mod Laws
-pub mod Lining
 pub mod Refusals
 pub mod Computed
 mod Examples

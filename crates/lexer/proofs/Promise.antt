@@ -2,14 +2,15 @@
 -- proofs/Laws.antt are inductions on the derivation.
 -- Assumes nothing.
 use mathlib.Core.Path.{◌≡◌, refl, subst}
-use mathlib.Core.Bool.{Bool, true, false, cond}
+use mathlib.Core.Bool.{Bool, true, false, cond, ◌||◌}
 use mathlib.Core.List.{List, [], ◌∷◌, ◌++◌}
 use mathlib.Core.Logic.{◌⊎◌, inl, inr}
 use Prim.Native.Nat.{ℕ, zero, suc, ◌+◌, ◌-◌, ◌/◌, ◌%◌, ◌≤◌}
 use native.Mathlib.Nat.{le_refl, le_trans}
 use native.Mathlib.Omega.{arith}
-use lib.Dec.{ltb}
-use lib.ListN.{length, replicate}
+use lib.Dec.{eqb, ltb}
+use lib.ListN.{length, get_or, replicate}
+use borrow.Author.Tests.{eqb-true, ltb-false}
 use Rattle.source.specs.Bytes.{part}
 use Rattle.token.specs.Code as Code
 use Rattle.tokens.specs.Token.{Token, token}
@@ -21,14 +22,13 @@ use Rattle.raw_token.specs.declared.RawToken.{RawToken}
 use Rattle.raw_token.specs.declared.RawToken.TheVariants.{Found, NoMatch}
 use Rattle.raw_token.proofs.Within.{token_within}
 use Rattle.spacing.specs.Gap.{gap_end_lem}
-use Rattle.spacing.specs.Indentation.{step, spaces_end_lem, indentation_at}
-use Rattle.spacing.specs.Brackets.{brackets_after, flag_after, inside}
+use Rattle.spacing.specs.Indentation.{step, is_level, is_blank_line, level_of, spaces_end_lem, indentation_at}
 use Rattle.lexer.specs.Value.{value_of, text_of}
 use Rattle.lexer.specs.Scan.{Scan, scanned, refused, prepend, mark, lexer, Rest, marks_then, indent_then, closed, value_then, found_then, token_then, scan_from, token_list}
 use Rattle.lexer.specs.declared.Lexer.{Lexer}
 use Rattle.spacing.specs.declared.line.Indentation.{Indentation}
 use Rattle.spacing.specs.declared.line.Indentation.TheVariants.{Blank, Level, No}
-use Rattle.spacing.proofs.Levels.{Known, indentation_known, level_cases, indentation_cases}
+use Rattle.spacing.proofs.Levels.{Known, indentation_known}
 use Rattle.lexer.proofs.Enough.{Reached, gap_from}
 
 -- The tokens of the source s, Eof last, and their text, where the token before starts at `lo` and ends at `hi`, `depth` levels are open, and
@@ -80,10 +80,30 @@ Moves at top (Level end code marks top') =
     ⊎ ((code ≡ Code.Dedent) × (top / step ≡ marks + top' / step))
 Moves at top (No number place) = Unit {0}
 
+level_moves : (at end top : ℕ) → top % step ≡ 0 → Moves at top (level_of at end top)
+unfolding level_of
+level_moves at end top e =
+    go (eqb (end - at) top) (ltb top (end - at)) (ltb-false top (end - at)) (eqb (end - at) (top + step)) (eqb-true (end - at) (top + step)) (is_level (end - at)) (eqb-true ((end - at) % step) 0)
+  where
+    go : (t u : Bool) → (u ≡ false → end - at ≤ top) → (v : Bool) → (v ≡ true → end - at ≡ top + step) → (w : Bool) → (w ≡ true → (end - at) % step ≡ 0)
+        → Moves at top (cond t (Level end Code.Dedent 0 top) (cond u (cond v (Level end Code.Indent 1 (end - at)) (No 7 at)) (cond w (Level end Code.Dedent ((top - (end - at)) / step) (end - at)) (No 8 at))))
+    go true u f v g w h = inr (refl, omega arith)
+    go false true f true g w h = let k = g refl in inl (refl, refl, omega arith, omega arith)
+    go false true f false g w h = tt
+    go false false f v g true h = let k = f refl in let m = h refl in inr (refl, omega arith)
+    go false false f v g false h = tt
+
 indentation_moves : (s : List ℕ) (at top : ℕ) → top % step ≡ 0 → Moves at top (indentation_at s at top)
-indentation_moves s at top e =
-    indentation_cases (Moves at top) s at top tt tt
-    (level_cases (Moves at top) at (spaces_end_lem s at) top (λ q. inr (refl, omega arith)) (λ q. inl (refl, refl, omega arith, omega arith)) tt (λ m q. inr (refl, omega arith)) tt)
+unfolding indentation_at
+indentation_moves s at top e = go (eqb b 9) (is_blank_line b)
+  where
+    b : ℕ
+    b = get_or s (spaces_end_lem s at) 0
+
+    go : (t u : Bool) → Moves at top (cond t (No 6 (spaces_end_lem s at)) (cond u (Blank (spaces_end_lem s at)) (level_of at (spaces_end_lem s at) top)))
+    go true u = tt
+    go false true = tt
+    go false false = level_moves at (spaces_end_lem s at) top e
 
 -- marks in front of a scan
 module _ (s : List ℕ) (at end depth used : ℕ) (from : at ≤ end) (to : end ≤ length s) where
@@ -103,10 +123,10 @@ module _ (s : List ℕ) (x : Lexer) (reached : Reached (length s) x) (rest : Res
   level_makes : (end code marks top : ℕ) → Known (length s) x.at x.top (Level end code marks top) → Moves x.at x.top (Level end code marks top)
       → Makes s x.at (x.top / step) x.used (marks_then rest x (Level end code marks top))
   level_makes end code marks top k (inl m) =
-      let y = lexer end false top x.brackets (x.count + 1) x.used in
+      let y = lexer end false top (x.count + 1) x.used in
       rw (m.0, m.1) (indent_makes s x.at end (x.top / step) x.used k.0 k.1 m.3 (rest y) (rw m.2 at (makes y (k.1, k.2))))
   level_makes end code marks top k (inr m) =
-      let y = lexer end false top x.brackets (x.count + marks) x.used in
+      let y = lexer end false top (x.count + marks) x.used in
       rw m.0 (dedents_make s x.at end (top / step) x.used k.0 k.1 marks (x.top / step) m.1 (rest y) (makes y (k.1, k.2)))
 
   indent-then : Makes s x.at (x.top / step) x.used (indent_then s rest x)
@@ -117,7 +137,7 @@ module _ (s : List ℕ) (x : Lexer) (reached : Reached (length s) x) (rest : Res
       by_flag : (t : Bool) (i : Indentation) → Known (length s) x.at x.top i → Moves x.at x.top i → Makes s x.at (x.top / step) x.used (cond t (marks_then rest x i) (rest x))
       by_flag false i k m = makes x reached
       by_flag true (Blank end) k m =
-          let y = lexer end true x.top x.brackets x.count x.used in
+          let y = lexer end true x.top x.count x.used in
           blank_makes s x.at end (x.top / step) x.used k.0 k.1 (rest y) (makes y (k.1, reached.1))
       by_flag true (Level end code marks top) k m = level_makes end code marks top k m
       by_flag true (No number place) k m = tt
@@ -129,20 +149,20 @@ module _ (s : List ℕ) (x : Lexer) (reached : Reached (length s) x) (rest : Res
   token-then = by_token (ltb start (length s)) (token_at_lem s start) refl
     where
       start : ℕ
-      start = gap_end_lem (inside x.brackets) s x.at
+      start = gap_end_lem s x.at
 
       token_makes : (code end : ℕ) → token_at_lem s start ≡ Found code end → (v : Literal) → value_of code (part s start end) x.used ≡ Value v
           → (r : Scan) → Makes s end (x.top / step) (x.used + length (text_of code (part s start end))) r
           → Makes s x.at (x.top / step) x.used (prepend (token code start end v ∷ []) (text_of code (part s start end)) r)
       token_makes code end e v f (scanned ts bs) t =
           let w = token_within s start code end e in
-          raw (gap_from x.brackets s x.at) (gap_from x.brackets s x.at) e f (earlier (omega arith) (le_refl end) t)
+          raw (gap_from s x.at) (gap_from s x.at) e f (earlier (omega arith) (le_refl end) t)
       token_makes code end e v f (refused number place) t = tt
 
       by_value : (code end : ℕ) → token_at_lem s start ≡ Found code end → (v : Lexed) → value_of code (part s start end) x.used ≡ v
           → Makes s x.at (x.top / step) x.used (value_then rest x code start end (text_of code (part s start end)) v)
       by_value code end e (Value v) f =
-          let y = lexer end (flag_after code x.flag) x.top (brackets_after code x.brackets) (x.count + 1) (x.used + length (text_of code (part s start end))) in
+          let y = lexer end (eqb code Code.Newline || x.flag) x.top (x.count + 1) (x.used + length (text_of code (part s start end))) in
           token_makes code end e v f (rest y) (makes y ((token_within s start code end e).1, reached.1))
       by_value code end e Refused f = tt
 
@@ -164,4 +184,4 @@ makes_from (suc fuel) s x r =
 -- the tokens of a source
 pub promise : (s : List ℕ) (ts : List Token) (bs : List ℕ) → token_list s ≡ scanned ts bs → Tokens s 0 0 0 0 ts bs
 unfolding token_list
-promise s ts bs e = subst (Makes s 0 0 0) e (makes_from (suc (length s)) s (lexer 0 true 0 0 0 0) (omega arith, refl))
+promise s ts bs e = subst (Makes s 0 0 0) e (makes_from (suc (length s)) s (lexer 0 true 0 0 0) (omega arith, refl))

@@ -1,12 +1,13 @@
 -- A refusal of the scanner is one of 6 to 11, and stands within the source.
 -- Assumes nothing.
 use mathlib.Core.Path.{◌≡◌, refl, subst}
-use mathlib.Core.Bool.{Bool, true, false, cond}
+use mathlib.Core.Bool.{Bool, true, false, cond, ◌||◌}
 use mathlib.Core.List.{List, []}
-use Prim.Native.Nat.{ℕ, zero, suc, ◌+◌, ◌-◌, ◌<◌, ◌≤◌}
+use Prim.Native.Nat.{ℕ, zero, suc, ◌+◌, ◌-◌, ◌%◌, ◌<◌, ◌≤◌}
+use native.Mathlib.Decide.{ℕ_discrete, dec_lt}
 use native.Mathlib.Omega.{arith}
 use lib.Dec.{eqb, ltb}
-use lib.ListN.{length}
+use lib.ListN.{length, get_or}
 use borrow.Author.Tests.{ltb-true}
 use Rattle.source.specs.Bytes.{part}
 use Rattle.token.specs.Code as Code
@@ -18,14 +19,13 @@ use Rattle.raw_token.specs.declared.RawToken.{RawToken}
 use Rattle.raw_token.specs.declared.RawToken.TheVariants.{Found, NoMatch}
 use Rattle.raw_token.proofs.Within.{token_within}
 use Rattle.spacing.specs.Gap.{gap_end_lem}
-use Rattle.spacing.specs.Indentation.{spaces_end_lem, indentation_at}
-use Rattle.spacing.specs.Brackets.{brackets_after, flag_after, inside}
+use Rattle.spacing.specs.Indentation.{step, is_blank_line, level_of, spaces_end_lem, indentation_at}
 use Rattle.lexer.specs.Value.{value_of, text_of}
 use Rattle.lexer.specs.Scan.{Scan, scanned, refused, prepend, lexer, Rest, marks_then, indent_then, closed, value_then, found_then, token_then, scan_from, token_list}
 use Rattle.lexer.specs.declared.Lexer.{Lexer}
 use Rattle.spacing.specs.declared.line.Indentation.{Indentation}
 use Rattle.spacing.specs.declared.line.Indentation.TheVariants.{Blank, Level, No}
-use Rattle.spacing.proofs.Levels.{Known, indentation_known, spaces_within, level_cases, indentation_cases}
+use Rattle.spacing.proofs.Levels.{Known, indentation_known, spaces_within, level_same, level_deeper, level_far, level_back, level_between}
 use Rattle.lexer.proofs.Enough.{Reached, gap_from}
 
 -- a refusal's number and place
@@ -47,12 +47,33 @@ sound_prepend : (n : ℕ) (ts : List Token) (bs : List ℕ) (r : Scan) → Sound
 sound_prepend n ts bs (scanned us cs) h = tt
 sound_prepend n ts bs (refused number place) h = h
 
+level_sound : (n at end top : ℕ) → at ≤ n → Spaces n (level_of at end top)
+level_sound n at end top h = by_same (ℕ_discrete (end - at) top)
+  where
+    by_level : (end - at ≡ top → ⊥) → end - at ≤ top → Dec ((end - at) % step ≡ 0) → Spaces n (level_of at end top)
+    by_level o m (yes q) = rw (← level_back at end top o m q) tt
+    by_level o m (no q) = rw (← level_between at end top o m q) (record { least = omega arith; greatest = omega arith; within = h })
+
+    by_step : (end - at ≡ top → ⊥) → top < end - at → Dec (end - at ≡ top + step) → Spaces n (level_of at end top)
+    by_step o m (yes q) = rw (← level_deeper at end top o m q) tt
+    by_step o m (no q) = rw (← level_far at end top o m q) (record { least = omega arith; greatest = omega arith; within = h })
+
+    by_more : (end - at ≡ top → ⊥) → Dec (top < end - at) → Spaces n (level_of at end top)
+    by_more o (yes m) = by_step o m (ℕ_discrete (end - at) (top + step))
+    by_more o (no m) = by_level o (omega arith) (ℕ_discrete ((end - at) % step) 0)
+
+    by_same : Dec (end - at ≡ top) → Spaces n (level_of at end top)
+    by_same (yes q) = rw (← level_same at end top q) tt
+    by_same (no q) = by_more q (dec_lt top (end - at))
+
 spaces_sound : (s : List ℕ) (at top : ℕ) → at ≤ length s → Spaces (length s) (indentation_at s at top)
-spaces_sound s at top h =
-    indentation_cases (Spaces (length s)) s at top
-    (record { least = omega arith; greatest = omega arith; within = (spaces_within s at h).1 })
-    tt
-    (level_cases (Spaces (length s)) at (spaces_end_lem s at) top (λ q. tt) (λ q. tt) (record { least = omega arith; greatest = omega arith; within = h }) (λ m q. tt) (record { least = omega arith; greatest = omega arith; within = h }))
+unfolding indentation_at
+spaces_sound s at top h = go (eqb (get_or s (spaces_end_lem s at) 0) 9) (is_blank_line (get_or s (spaces_end_lem s at) 0))
+  where
+    go : (t u : Bool) → Spaces (length s) (cond t (No 6 (spaces_end_lem s at)) (cond u (Blank (spaces_end_lem s at)) (level_of at (spaces_end_lem s at) top)))
+    go true u = record { least = omega arith; greatest = omega arith; within = (spaces_within s at h).1 }
+    go false true = tt
+    go false false = level_sound (length s) at (spaces_end_lem s at) top h
 
 -- what follows is sound at every state from `at` on
 abbrev Onward : ℕ → ℕ → Rest → Type 0
@@ -65,8 +86,8 @@ module _ (s : List ℕ) (x : Lexer) (reached : Reached (length s) x) (rest : Res
     where
       go : (t : Bool) (i : Indentation) → Known (length s) x.at x.top i → Spaces (length s) i → Sound (length s) (cond t (marks_then rest x i) (rest x))
       go false i k p = h x (omega arith) reached
-      go true (Blank end) k p = h (lexer end true x.top x.brackets x.count x.used) k.0 (k.1, reached.1)
-      go true (Level end code n top) k p = sound_prepend (length s) _ [] (rest (lexer end false top x.brackets (x.count + n) x.used)) (h (lexer end false top x.brackets (x.count + n) x.used) k.0 (k.1, k.2))
+      go true (Blank end) k p = h (lexer end true x.top x.count x.used) k.0 (k.1, reached.1)
+      go true (Level end code n top) k p = sound_prepend (length s) _ [] (rest (lexer end false top (x.count + n) x.used)) (h (lexer end false top (x.count + n) x.used) k.0 (k.1, k.2))
       go true (No number place) k p = p
 
   token_sound : Onward (length s) (x.at + 1) rest → Sound (length s) (token_then s rest x)
@@ -74,12 +95,12 @@ module _ (s : List ℕ) (x : Lexer) (reached : Reached (length s) x) (rest : Res
   token_sound h = by_end (ltb start (length s)) (ltb-true start (length s))
     where
       start : ℕ
-      start = gap_end_lem (inside x.brackets) s x.at
+      start = gap_end_lem s x.at
 
       by_value : (code end : ℕ) (bs : List ℕ) (v : Lexed) → start < end → end ≤ length s → Sound (length s) (value_then rest x code start end bs v)
       by_value code end bs (Value v) a b =
-          let y = lexer end (flag_after code x.flag) x.top (brackets_after code x.brackets) (x.count + 1) (x.used + length bs) in
-          sound_prepend (length s) _ bs (rest y) (h y (omega (arith, gap_from x.brackets s x.at)) (b, reached.1))
+          let y = lexer end (eqb code Code.Newline || x.flag) x.top (x.count + 1) (x.used + length bs) in
+          sound_prepend (length s) _ bs (rest y) (h y (omega (arith, gap_from s x.at)) (b, reached.1))
       by_value code end bs Refused a b = number_sound (eqb code Code.Int)
         where
           number_sound : (t : Bool) → Refuses (length s) (cond t 10 11) start
@@ -107,4 +128,4 @@ scan_sound (suc f) s x r h =
 pub refusals : (s : List ℕ) (number place : ℕ) → token_list s ≡ refused number place → Refuses (length s) number place
 unfolding token_list
 refusals s number place e =
-    subst (Sound (length s)) e (scan_sound (suc (length s)) s (lexer 0 true 0 0 0 0) (omega arith, omega arith) (omega arith))
+    subst (Sound (length s)) e (scan_sound (suc (length s)) s (lexer 0 true 0 0 0) (omega arith, omega arith) (omega arith))

@@ -1,6 +1,6 @@
 -- What the scanner's loop keeps, and what it comes to; and what zeros behind that make of the slices.
 -- Assumes nothing.
-use mathlib.Core.Path.{◌≡◌, refl, sym, ap, ◌∙◌, subst}
+use mathlib.Core.Path.{◌≡◌, sym, ap, ◌∙◌, subst}
 use mathlib.Core.Bool.{true}
 use mathlib.Core.List.{List, [], ◌++◌, append-nil}
 use Prim.Native.Nat.{ℕ, ◌+◌, ◌-◌, ◌*◌, ◌<◌, ◌≤◌}
@@ -10,7 +10,7 @@ use lib.Seq.{length-take-le}
 use Rattle.areas.specs.Area.{token_area, zeroed}
 use Rattle.lexer.specs.Scan.{Scan, scanned, refused, lexer, Rest, indent_then, token_then, token_list}
 use Rattle.lexer.specs.Words.{words}
-use Rattle.lexer.specs.Steps.{Exact, Paid, filled, none, left, so_far, turned, RanWithin, Goes, Runs, Fills}
+use Rattle.lexer.specs.Steps.{Exact, Paid, filled, none, left, so_far, turned, RanWithin, Turns, Runs, Fills}
 use Rattle.lexer.specs.declared.Lexer.{Lexer}
 use Rattle.lexer.specs.declared.Turn.{Turn}
 use Rattle.lexer.specs.declared.Turn.TheVariants as T
@@ -22,28 +22,26 @@ use Rattle.lexer.proofs.Writing.{length_words}
 -- what is written, and then the scan from the state on, is the whole scan
 pub record Going (s tokens text : List ℕ) (x : Lexer) : Type 0 where
   pub paid : Paid (length s) x
-  pub flag : x.flag ≡ true
   pub whole : left [] [] (token_list s) ≡ so_far tokens text x (from s x)
 
-pub at_first : (s tokens text : List ℕ) → Going s tokens text (lexer 0 true 0 0 0 0)
+pub at_first : (s tokens text : List ℕ) → Going s tokens text (lexer 0 true 0 0 0)
 at_first s tokens text =
     record {
-      paid = record { within = omega arith; even = omega arith; tokens_paid = omega arith; text_paid = omega arith; brackets_paid = omega arith };
-      flag = refl;
+      paid = record { within = omega arith; even = omega arith; tokens_paid = omega arith; text_paid = omega arith };
       whole = ap (left [] []) (list_is s);
     }
 
-module _ (s : List ℕ) (x : Lexer) (r : Turn) (tokens text tokens' text' : List ℕ) (g : Going s tokens text x) (t : Goes s (λ (rest : Rest). indent_then s (token_then s rest) x) x r tokens text tokens' text') where
+module _ (s : List ℕ) (x : Lexer) (r : Turn) (tokens text tokens' text' : List ℕ) (g : Going s tokens text x) (t : Turns (length s) (λ (rest : Rest). indent_then s (token_then s rest) x) x r tokens text tokens' text') where
   told : (q : Turn) → r ≡ q → left [] [] (token_list s) ≡ turned q tokens' text' (from s)
   told q e =
-      g.whole ∙ ap (so_far tokens text x) (from_is s x (g.paid.within, g.paid.even)) ∙ t.is (from s) (λ y p. from_is s y (p.within, p.even))
+      g.whole ∙ ap (so_far tokens text x) (from_is s x (g.paid.within, g.paid.even)) ∙ t.is (from s)
       ∙ ap (λ (z : Turn). turned z tokens' text' (from s)) e
 
-  within : (q : Turn) → r ≡ q → Goes s (λ (rest : Rest). indent_then s (token_then s rest) x) x q tokens text tokens' text'
-  within q e = subst (λ (z : Turn). Goes s (λ (rest : Rest). indent_then s (token_then s rest) x) x z tokens text tokens' text') e t
+  within : (q : Turn) → r ≡ q → Turns (length s) (λ (rest : Rest). indent_then s (token_then s rest) x) x q tokens text tokens' text'
+  within q e = subst (λ (z : Turn). Turns (length s) (λ (rest : Rest). indent_then s (token_then s rest) x) x z tokens text tokens' text') e t
 
   pub goes_on : (y : Lexer) → r ≡ T.On y → Going s tokens' text' y
-  goes_on y e = record { paid = (within (T.On y) e).within.0; flag = t.flagged y e; whole = told (T.On y) e }
+  goes_on y e = record { paid = (within (T.On y) e).within.0; whole = told (T.On y) e }
 
   pub further : (y : Lexer) → r ≡ T.On y → x.at < y.at
   further y e = (within (T.On y) e).within.1

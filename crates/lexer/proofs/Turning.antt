@@ -4,6 +4,7 @@ use mathlib.Core.Path.{◌≡◌, refl, sym, ap, ◌∙◌, subst}
 use mathlib.Core.Bool.{true, false}
 use mathlib.Core.List.{List, [], ◌∷◌, append-nil}
 use Prim.Native.Nat.{ℕ, ◌+◌, ◌-◌, ◌*◌, ◌/◌, ◌≤◌}
+use native.Mathlib.Nat.{le_refl}
 use native.Mathlib.Omega.{arith}
 use lib.ListN.{length, take, replicate, length-replicate}
 use lib.Seq.{sets}
@@ -23,6 +24,10 @@ use Rattle.lexer.proofs.Writing.{wrote}
 -- ---- a line's spaces
 
 module _ (s : List ℕ) (x : Lexer) (paid : Paid (length s) x) where
+  pub flag_clear : x.flag ≡ false → (tokens : List ℕ) → Marks s x (M.On x) tokens tokens
+  unfolding indent_then
+  flag_clear e tokens = record { is = λ rest text. rw e; within = (paid, le_refl x.at) }
+
   known : (i : Indentation) → indentation_at s x.at x.top ≡ i → Known (length s) x.at x.top i
   known i e = subst (Known (length s) x.at x.top) e (indentation_known s x.at x.top paid.within paid.even)
 
@@ -33,24 +38,24 @@ module _ (s : List ℕ) (x : Lexer) (paid : Paid (length s) x) where
       (omega arith, k.1)
 
   module _ (flag : x.flag ≡ true) where
-    pub on_blank : (end : ℕ) → indentation_at s x.at x.top ≡ Blank end → (tokens : List ℕ) → Marks s x (M.On (lexer end true x.top x.brackets x.count x.used)) tokens tokens
+    pub on_blank : (end : ℕ) → indentation_at s x.at x.top ≡ Blank end → (tokens : List ℕ) → Marks s x (M.On (lexer end true x.top x.count x.used)) tokens tokens
     unfolding indent_then
     on_blank end e tokens =
         let k = known (Blank end) e in
         record {
           is = λ rest text. rw (flag, e);
-          within = (record { within = k.1; even = paid.even; tokens_paid = omega arith; text_paid = omega arith; brackets_paid = omega arith }, k.0);
+          within = (record { within = k.1; even = paid.even; tokens_paid = omega arith; text_paid = omega arith }, k.0);
         }
 
     pub on_level : (end code marks top : ℕ) → indentation_at s x.at x.top ≡ Level end code marks top → (tokens tokens' : List ℕ)
         → tokens' ≡ sets tokens (3 * x.count) (words (replicate marks (mark code x.at end))) → 3 * (x.count + marks) ≤ length tokens
-        → Marks s x (M.On (lexer end false top x.brackets (x.count + marks) x.used)) tokens tokens'
+        → Marks s x (M.On (lexer end false top (x.count + marks) x.used)) tokens tokens'
     unfolding indent_then
     on_level end code marks top e tokens tokens' w room =
         let k = known (Level end code marks top) e in
         record {
-          is = λ rest text. rw (flag, e) (wrote tokens x.count (replicate marks (mark code x.at end)) tokens' (x.count + marks) text [] text x.used x.used w (ap (λ (n : ℕ). x.count + n) (sym (length-replicate marks (mark code x.at end)))) room (sym (append-nil (take x.used text))) (rest (lexer end false top x.brackets (x.count + marks) x.used)));
-          within = (record { within = k.1; even = k.2; tokens_paid = omega arith; text_paid = omega arith; brackets_paid = omega arith }, k.0);
+          is = λ rest text. rw (flag, e) (wrote tokens x.count (replicate marks (mark code x.at end)) tokens' (x.count + marks) text [] text x.used x.used w (ap (λ (n : ℕ). x.count + n) (sym (length-replicate marks (mark code x.at end)))) room (sym (append-nil (take x.used text))) (rest (lexer end false top (x.count + marks) x.used)));
+          within = (record { within = k.1; even = k.2; tokens_paid = omega arith; text_paid = omega arith }, k.0);
         }
 
     pub on_no : (number place : ℕ) → indentation_at s x.at x.top ≡ No number place → (tokens : List ℕ) → Marks s x (M.No number place) tokens tokens

@@ -1,9 +1,9 @@
--- The token list of a source (01, Raw tokens, Indentation, and questions 6 to 11; 02, change 7). Of the scanner the crates above cite this and its answers,
--- the words and text of a list, and a token's value; Lines.antt says where its layout tokens stand.
--- The state is the code's struct Lexer: `at`, the place reached; `flag`; `top`, the deepest open level; `brackets`, the brackets that are open; `count`,
--- the tokens so far, which the code needs and no rule asks; `used`, the text so far, which a String's offset needs.
+-- The token list of a source (01, Raw tokens, Indentation, and questions 6 to 11). Of the scanner the crates above cite this and its answers, the words
+-- and text of a list, and a token's value.
+-- The state is the code's struct Lexer: `at`, the place reached; `flag`; `top`, the deepest open level; `count`, the tokens so far, which the code needs
+-- and no rule asks; `used`, the text so far, which a String's offset needs.
 -- Assumes nothing.
-use Rattle.std.specs.Prelude.{ℕ, zero, suc, ◌+◌, ◌/◌, Bool, true, false, cond, List, [], ◌∷◌, ◌++◌, ltb, length, replicate}
+use Rattle.std.specs.Prelude.{ℕ, zero, suc, ◌+◌, ◌/◌, Bool, true, false, cond, ◌||◌, List, [], ◌∷◌, ◌++◌, eqb, ltb, length, replicate}
 use Rattle.source.specs.Bytes.{part}
 use Rattle.token.specs.Code as Code
 use Rattle.tokens.specs.Token.{Token, token}
@@ -15,7 +15,6 @@ use Rattle.literal.specs.declared.Lexed.{Lexed}
 use Rattle.literal.specs.declared.Lexed.TheVariants.{Value, Refused}
 use Rattle.spacing.specs.Gap.{gap_end_lem}
 use Rattle.spacing.specs.Indentation.{step, indentation_at}
-use Rattle.spacing.specs.Brackets.{brackets_after, flag_after, inside}
 use Rattle.lexer.specs.Value.{value_of, refusal_of, text_of}
 use Rattle.lexer.specs.declared.Lexer.{Lexer}
 use Rattle.spacing.specs.declared.line.Indentation.{Indentation}
@@ -35,8 +34,8 @@ prepend ts bs (refused n p) = refused n p
 abbrev pub mark : ℕ → ℕ → ℕ → Token
 mark code start end = token code start end L.None
 
-abbrev pub lexer : ℕ → Bool → ℕ → ℕ → ℕ → ℕ → Lexer
-lexer at flag top brackets count used = record { at = at; flag = flag; top = top; brackets = brackets; count = count; used = used }
+abbrev pub lexer : ℕ → Bool → ℕ → ℕ → ℕ → Lexer
+lexer at flag top count used = record { at = at; flag = flag; top = top; count = count; used = used }
 
 -- what follows a state
 abbrev pub Rest : Type 0
@@ -45,9 +44,9 @@ Rest = Lexer → Scan
 -- the marks of a line's spaces, and then the rest. "Before line feed, carriage return or `#` the flag stays set and no level changes; otherwise
 -- .. it is cleared"
 abbrev pub marks_then : Rest → Lexer → Indentation → Scan
-marks_then rest x (Blank end) = rest (lexer end true x.top x.brackets x.count x.used)
+marks_then rest x (Blank end) = rest (lexer end true x.top x.count x.used)
 marks_then rest x (Level end code n top) =
-    prepend (replicate n (mark code x.at end)) [] (rest (lexer end false top x.brackets (x.count + n) x.used))
+    prepend (replicate n (mark code x.at end)) [] (rest (lexer end false top (x.count + n) x.used))
 marks_then rest x (No number place) = refused number place
 
 -- "A flag .. makes the next call count spaces"
@@ -58,11 +57,12 @@ indent_then s rest x = cond x.flag (marks_then rest x (indentation_at s x.at x.t
 unfoldable pub closed : ℕ → Lexer → Scan
 closed n x = scanned (replicate (x.top / step) (mark Code.Dedent n n) ++ mark Code.Eof n n ∷ []) []
 
--- a token with its value and its text, and then the rest
+-- a token with its value and its text, and then the rest. The flag is set "after each Newline", and stays set where it is: "After a carriage
+-- return then a token, the flag is still set"
 abbrev pub value_then : Rest → Lexer → ℕ → ℕ → ℕ → List ℕ → Lexed → Scan
 value_then rest x code start end bs (Value v) =
     prepend (token code start end v ∷ []) bs
-    (rest (lexer end (flag_after code x.flag) x.top (brackets_after code x.brackets) (x.count + 1) (x.used + length bs)))
+    (rest (lexer end (eqb code Code.Newline || x.flag) x.top (x.count + 1) (x.used + length bs)))
 value_then rest x code start end bs Refused = refused (refusal_of code) start
 
 -- "9 does a token match?"; and since 02, change 1: "Another character over 127 where a token would start gets 9, so 12 never occurs from here on"
@@ -74,7 +74,7 @@ found_then s rest x start NoMatch = refused 9 start
 -- the next token, behind what is skipped
 unfoldable pub token_then : List ℕ → Rest → Lexer → Scan
 token_then s rest x =
-    let start = gap_end_lem (inside x.brackets) s x.at in
+    let start = gap_end_lem s x.at in
     cond (ltb start (length s))
     (found_then s rest x start (token_at_lem s start))
     (closed (length s) x)
@@ -85,6 +85,6 @@ unfoldable pub scan_from : ℕ → List ℕ → Rest
 scan_from zero s x = refused 0 0
 scan_from (suc fuel) s x = indent_then s (token_then s (scan_from fuel s)) x
 
--- "A flag, set at the start"; no bracket is open there
+-- "A flag, set at the start"
 unfoldable pub token_list : List ℕ → Scan
-token_list s = scan_from (suc (length s)) s (lexer 0 true 0 0 0 0)
+token_list s = scan_from (suc (length s)) s (lexer 0 true 0 0 0)

@@ -1,11 +1,11 @@
 -- What the scanner's private functions promise. Only their contracts cite these; what the scanner as a whole promises stands in Words.antt.
 -- Assumes nothing.
-use Rattle.std.specs.Prelude.{ℕ, ◌+◌, ◌-◌, ◌*◌, ◌/◌, ◌%◌, ◌<◌, ◌≤◌, ◌≡◌, true, List, [], ◌++◌, length, take, replicate}
+use Rattle.std.specs.Prelude.{ℕ, ◌+◌, ◌-◌, ◌*◌, ◌/◌, ◌%◌, ◌<◌, ◌≤◌, ◌≡◌, List, [], ◌++◌, length, take, replicate}
 use Rattle.areas.specs.Area.{token_area}
 use Rattle.literal.specs.declared.Lexed.{Lexed}
 use Rattle.literal.specs.declared.Lexed.TheVariants.{Value, Refused}
 use Rattle.spacing.specs.Indentation.{step}
-use Rattle.lexer.specs.Scan.{Scan, scanned, refused, Rest, indent_then, token_then, token_list}
+use Rattle.lexer.specs.Scan.{Scan, scanned, refused, Rest, indent_then, token_list}
 use Rattle.lexer.specs.Words.{words, answer_of, words_of, text_bytes}
 use Rattle.lexer.specs.declared.Lexer.{Lexer}
 use Rattle.lexer.specs.declared.Marked.{Marked}
@@ -23,13 +23,12 @@ pub record Exact (s tokens text : List ℕ) : Type 0 where
   pub tokens_long : length tokens ≡ token_area (length s)
   pub text_long : length text ≡ length s
 
--- the bytes passed pay for the tokens so far, for a Dedent of each open level, for the text so far, and for the brackets that are open
+-- the bytes passed pay for the tokens so far, for a Dedent of each open level, and for the text so far
 pub record Paid (n : ℕ) (x : Lexer) : Type 0 where
   pub within : x.at ≤ n
   pub even : x.top % step ≡ 0
   pub tokens_paid : x.count + x.top / step ≤ x.at
   pub text_paid : x.used ≤ x.at
-  pub brackets_paid : x.brackets ≤ x.at
 
 -- what slices are left with: the words and the text that were filled, or a refusal
 pub data Left : Type 0 where
@@ -82,16 +81,6 @@ pub record Marks (s : List ℕ) (x : Lexer) (r : Marked) (tokens₀ tokens : Lis
 pub record Turns (n : ℕ) (scan : Rest → Scan) (x : Lexer) (r : Turn) (tokens₀ text₀ tokens text : List ℕ) : Type 0 where
   pub is : (rest : Rest) → so_far tokens₀ text₀ x (scan rest) ≡ turned r tokens text rest
   pub within : TurnedWithin n x r
-
--- what follows goes on in turns: the spaces that count, then a token, and then what follows
-abbrev pub Onward : List ℕ → Rest → Type 0
-Onward s rest = (y : Lexer) → Paid (length s) y → rest y ≡ indent_then s (token_then s rest) y
-
--- a function that does what `scan` says, and a number of such turns, up to where the flag is set
-pub record Goes (s : List ℕ) (scan : Rest → Scan) (x : Lexer) (r : Turn) (tokens₀ text₀ tokens text : List ℕ) : Type 0 where
-  pub is : (rest : Rest) → Onward s rest → so_far tokens₀ text₀ x (scan rest) ≡ turned r tokens text rest
-  pub within : TurnedWithin (length s) x r
-  pub flagged : (y : Lexer) → r ≡ T.On y → y.flag ≡ true
 
 -- the whole scan, in slices that are the areas
 pub record Runs (s : List ℕ) (r : Scanned) (tokens text : List ℕ) : Type 0 where

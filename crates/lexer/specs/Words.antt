@@ -4,7 +4,6 @@ use Rattle.std.specs.Prelude.{ℕ, ◌-◌, ◌≤◌, ◌≡◌, List, [], ◌�
 use Rattle.areas.specs.Area.{area, token_area}
 use Rattle.tokens.specs.Token.{Token}
 use Rattle.lexer.specs.Scan.{Scan, scanned, refused, token_list}
-use Rattle.lexer.specs.Lines.{Lined}
 use Rattle.lexer.specs.declared.Scanned.{Scanned}
 use Rattle.lexer.specs.declared.Scanned.TheVariants as S
 
@@ -27,12 +26,11 @@ abbrev pub text_bytes : Scan → List ℕ
 text_bytes (scanned ts bs) = bs
 text_bytes (refused number place) = []
 
--- what the scanner answers, and every word and byte of both slices afterwards; and of the list, which is fixed by that, where its layout tokens stand
+-- what the scanner answers, and every word and byte of both slices afterwards
 pub record Scans (s : List ℕ) (r : Scanned) (tokens₀ text₀ tokens text : List ℕ) : Type 0 where
   pub answer : r ≡ answer_of (token_list s)
   pub tokens_are : tokens ≡ area (token_area (length s)) (words_of (token_list s)) tokens₀
   pub text_is : text ≡ area (length s) (text_bytes (token_list s)) text₀
-  pub lined : (ts : List Token) (bs : List ℕ) → token_list s ≡ scanned ts bs → Lined (length s) 0 ts
 
 -- the slices hold their areas, and n is at most what question 1 lets through
 pub record Room (s tokens text : List ℕ) : Type 0 where

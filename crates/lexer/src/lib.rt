@@ -1,30 +1,28 @@
 // The scanner (src/lexer/mod.rs): indentation, skipping, and the token list, written three words a token with the decoded text beside it.
 //
-// Rust's `token_queue` is a number of marks that are written at once, and its `indent_stack` is its top, since the stack reads 0, 2, 4. What is
-// `next_token_with_span` there is `next_line` here: the spaces that count, and then all tokens up to where spaces count again.
+// Rust's `token_queue` is a number of marks that are written at once, and its `indent_stack` is its top, since the stack reads 0, 2, 4.
 mod put;
 mod value;
 
-ghost use Rattle.std.specs.Prelude.{◌≡◌, true, List, ℕ, ◌+◌, ◌≤◌, ◌<◌, length};
+ghost use Rattle.std.specs.Prelude.{◌≡◌, List, ℕ, ◌+◌, ◌≤◌, ◌<◌, length};
 ghost use Rattle.areas.specs.Area.{token_area};
 ghost use Rattle.token.specs.Code.{String};
 ghost use Rattle.raw_token.specs.declared.RawToken.TheVariants as Raw;
 ghost use Rattle.lexer.specs.Scan.{closed, found_then, indent_then, token_then, token_list};
 ghost use Rattle.lexer.specs.Words.{Room, Scans};
-ghost use Rattle.lexer.specs.Steps.{Exact, Paid, Marks, Turns, Goes, Runs, Fills};
+ghost use Rattle.lexer.specs.Steps.{Exact, Paid, Marks, Turns, Runs, Fills};
 
 use raw_token::RawToken;
 use spacing::Indentation;
 use value::Taken;
 pub use value::literal_of;
 
-// The scanner's state: the place reached, 01's flag, the deepest open level, the brackets that are open, the tokens so far, and the bytes of text so far.
+// The scanner's state: the place reached, 01's flag, the deepest open level, the tokens so far, and the bytes of text so far.
 #[derive(Drop)]
 pub struct Lexer {
     pub at: usize,
     pub flag: bool,
     pub top: usize,
-    pub brackets: usize,
     pub count: usize,
     pub used: usize,
 }
@@ -36,7 +34,7 @@ enum Marked {
     No { number: u32, place: usize },
 }
 
-// Tokens are written, or the last one was, or the source is refused.
+// A token is written, or the last one was, or the source is refused.
 #[derive(Drop)]
 enum Turn {
     On(Lexer),
@@ -53,15 +51,17 @@ pub enum Scanned {
 
 // With the flag set, counts the spaces of a line and writes their marks.
 fn handle_indentation(src: &[u8], tokens: &mut [u32], x: Lexer) -> Marked
-    requires { (length src.now ≤ 65536) × (length tokens.old ≡ token_area (length src.now)) × Paid (length src.now) x × (x.flag ≡ true) }
+    requires { (length src.now ≤ 65536) × (length tokens.old ≡ token_area (length src.now)) × Paid (length src.now) x }
     ensures { Marks src.now x result tokens.old tokens.new }
 {
+    if !x.flag {
+        return Marked::On(x);
+    }
     match spacing::measure(src, x.at, x.top) {
         Indentation::Blank(end) => Marked::On(Lexer {
             at: end,
             flag: true,
             top: x.top,
-            brackets: x.brackets,
             count: x.count,
             used: x.used,
         }),
@@ -76,7 +76,6 @@ fn handle_indentation(src: &[u8], tokens: &mut [u32], x: Lexer) -> Marked
                 at: end,
                 flag: false,
                 top,
-                brackets: x.brackets,
                 count: x.count + marks,
                 used: x.used,
             })
@@ -117,12 +116,10 @@ fn found(
     match value::take_value(src, text, code, start, end, x.used) {
         Taken::Used(used) => {
             put::put_token(tokens, x.count, code, start, end);
-            let behind = spacing::behind_token(code, x.flag, x.brackets);
             Turn::On(Lexer {
                 at: end,
-                flag: behind.flag,
+                flag: (code == token::NEWLINE) | x.flag,
                 top: x.top,
-                brackets: behind.brackets,
                 count: x.count + 1,
                 used,
             })
@@ -139,7 +136,7 @@ fn next_token(src: &[u8], tokens: &mut [u32], text: &mut [u8], x: Lexer) -> Turn
     requires { Exact src.now tokens.old text.old × Paid (length src.now) x }
     ensures { Turns (length src.now) (λ rest. token_then src.now rest x) x result tokens.old text.old tokens.new text.new }
 {
-    let start = spacing::gap_end(src, x.at, 0 < x.brackets);
+    let start = spacing::gap_end(src, x.at);
     if src.len() <= start {
         return close(tokens, src.len(), x);
     }
@@ -152,37 +149,13 @@ fn next_token(src: &[u8], tokens: &mut [u32], text: &mut [u8], x: Lexer) -> Turn
     }
 }
 
-// The tokens up to one that leaves the flag set: only behind that are spaces counted.
-fn line_tokens(src: &[u8], tokens: &mut [u32], text: &mut [u8], x: Lexer) -> Turn
+// The spaces that count, and then a token.
+fn next_token_with_span(src: &[u8], tokens: &mut [u32], text: &mut [u8], x: Lexer) -> Turn
     requires { Exact src.now tokens.old text.old × Paid (length src.now) x }
-    ensures { Goes src.now (λ rest. token_then src.now rest x) x result tokens.old text.old tokens.new text.new }
-{
-    let mut y = x;
-    loop {
-        match next_token(src, tokens, text, y) {
-            Turn::On(z) => {
-                if z.flag {
-                    return Turn::On(z);
-                }
-                y = z;
-            }
-            Turn::End { count, used } => {
-                return Turn::End { count, used };
-            }
-            Turn::No { number, place } => {
-                return Turn::No { number, place };
-            }
-        }
-    }
-}
-
-// The spaces that count, and then a line's tokens.
-fn next_line(src: &[u8], tokens: &mut [u32], text: &mut [u8], x: Lexer) -> Turn
-    requires { Exact src.now tokens.old text.old × Paid (length src.now) x × (x.flag ≡ true) }
-    ensures { Goes src.now (λ rest. indent_then src.now (token_then src.now rest) x) x result tokens.old text.old tokens.new text.new }
+    ensures { Turns (length src.now) (λ rest. indent_then src.now (token_then src.now rest) x) x result tokens.old text.old tokens.new text.new }
 {
     match handle_indentation(src, tokens, x) {
-        Marked::On(y) => line_tokens(src, tokens, text, y),
+        Marked::On(y) => next_token(src, tokens, text, y),
         Marked::No { number, place } => Turn::No { number, place },
     }
 }
@@ -196,12 +169,11 @@ fn run(src: &[u8], tokens: &mut [u32], text: &mut [u8]) -> Scanned
         at: 0,
         flag: true,
         top: 0,
-        brackets: 0,
         count: 0,
         used: 0,
     };
     loop {
-        match next_line(src, tokens, text, x) {
+        match next_token_with_span(src, tokens, text, x) {
             Turn::On(y) => {
                 x = y;
             }
@@ -236,8 +208,8 @@ fn fill(src: &[u8], tokens: &mut [u32], text: &mut [u8]) -> Scanned
     }
 }
 
-// The tokens and the text of a source, or the first refusal of 6 to 11. `Scans` says what the answer is, what every word of both slices is
-// afterwards, and where the layout tokens stand.
+// The tokens and the text of a source, or the first refusal of 6 to 11. `Scans` says what the answer is and what every word of both slices is
+// afterwards.
 pub fn scan(src: &[u8], tokens: &mut [u32], text: &mut [u8]) -> Scanned
     requires { Room src.now tokens.old text.old }
     ensures { Scans src.now result tokens.old text.old tokens.new text.new }

@@ -1,9 +1,8 @@
 -- The token list by the indentation stack is the token list (`by_stack`): along the scan the open Indents of the tokens so far have the columns
--- 2, 4, .. up to the top, so a count below the top is among them exactly where it is a multiple of the step; and the brackets that the scan counts are
--- those that the tokens so far leave open.
+-- 2, 4, .. up to the top, so a count below the top is among them exactly where it is a multiple of the step.
 -- Assumes nothing.
 use mathlib.Core.Path.{◌≡◌, refl, sym, ap, ◌∙◌}
-use mathlib.Core.Bool.{Bool, true, false, cond}
+use mathlib.Core.Bool.{Bool, true, false, cond, ◌||◌}
 use mathlib.Core.List.{List, [], ◌∷◌, ◌++◌, append_assoc, append-nil}
 use Prim.Native.Nat.{ℕ, zero, suc, ◌+◌, ◌-◌, ◌*◌, ◌/◌, ◌%◌, ◌<◌, ◌≤◌}
 use native.Mathlib.Decide.{ℕ_discrete, dec_lt, dec_le}
@@ -21,12 +20,9 @@ use Rattle.raw_token.specs.Table.{token_at_lem}
 use Rattle.raw_token.specs.declared.RawToken.{RawToken}
 use Rattle.raw_token.specs.declared.RawToken.TheVariants.{Found, NoMatch}
 use Rattle.spacing.specs.Gap.{gap_end_lem}
-use Rattle.spacing.specs.Indentation.{step, is_level, level_of, spaces_end_lem, indentation_at}
-use Rattle.spacing.proofs.Levels.{level_cases, indentation_cases}
-use Rattle.spacing.specs.Brackets.{brackets_after, flag_after, inside}
+use Rattle.spacing.specs.Indentation.{step, is_level, is_blank_line, level_of, spaces_end_lem, indentation_at}
 use Rattle.lexer.specs.Value.{value_of, text_of}
 use Rattle.lexer.specs.Scan.{Scan, scanned, refused, prepend, mark, lexer, Rest, marks_then, indent_then, closed, value_then, found_then, token_then, scan_from, token_list}
-use Rattle.lexer.specs.Lines.{brackets_behind}
 use Rattle.lexer.specs.declared.Lexer.{Lexer}
 use Rattle.spacing.specs.declared.line.Indentation.{Indentation}
 use Rattle.spacing.specs.declared.line.Indentation.TheVariants.{Blank, Level, No}
@@ -102,13 +98,12 @@ indentation_is : (s : List ℕ) (at d : ℕ) → indentation_among s at (ladder 
 unfolding indentation_among indentation_at
 indentation_is s at d = rw (level_is at (spaces_end_lem s at) d)
 
--- ---- what marks leave open: levels, and brackets as they were
+-- ---- the levels that marks leave open
 
 record Leads (at d end code n top : ℕ) : Type 0 where
   depth : ℕ
   top_is : top ≡ step * depth
   opens : opened (ladder d) (replicate n (mark code at end)) ≡ ladder depth
-  brackets_stay : (k : ℕ) → brackets_behind k (replicate n (mark code at end)) ≡ k
 
 abbrev Leading : ℕ → ℕ → Indentation → Type 0
 Leading at d (Blank end) = Unit {0}
@@ -124,29 +119,40 @@ pops (suc n) d all at end e =
     let f : all ≡ suc (n + d) = omega arith in
     rw f (pops n d (n + d) at end refl)
 
--- and no bracket
-dedents_stay : (n at end k : ℕ) → brackets_behind k (replicate n (mark Code.Dedent at end)) ≡ k
-dedents_stay zero at end k = refl
-dedents_stay (suc n) at end k = dedents_stay n at end k
-
 level_leads : (at end d : ℕ) → Leading at d (level_of at end (step * d))
+unfolding level_of
 level_leads at end d =
-    level_cases (Leading at d) at end (step * d)
-    (λ q. record { depth = d; top_is = refl; opens = refl; brackets_stay = λ k. refl })
-    (λ q.
-    let e : end - at ≡ step * suc d = omega arith in
-    record { depth = suc d; top_is = e; opens = ap (λ (j : ℕ). j ∷ ladder d) e; brackets_stay = λ k. refl })
-    tt
-    (λ m q. record {
-      depth = (end - at) / step;
-      top_is = omega arith;
-      opens = pops ((step * d - (end - at)) / step) ((end - at) / step) d at end (omega arith);
-      brackets_stay = dedents_stay ((step * d - (end - at)) / step) at end;
-    })
-    tt
+    go (eqb k top) (ltb top k) (ltb-false top k) (eqb k (top + step)) (eqb-true k (top + step)) (is_level k) (eqb-true (k % step) 0)
+  where
+    k : ℕ
+    k = end - at
+
+    top : ℕ
+    top = step * d
+
+    go : (t u : Bool) → (u ≡ false → k ≤ top) → (v : Bool) → (v ≡ true → k ≡ top + step) → (w : Bool) → (w ≡ true → k % step ≡ 0)
+        → Leading at d (cond t (Level end Code.Dedent 0 top) (cond u (cond v (Level end Code.Indent 1 k) (No 7 at)) (cond w (Level end Code.Dedent ((top - k) / step) k) (No 8 at))))
+    go true u f v g w h = record { depth = d; top_is = refl; opens = refl }
+    go false true f true g w h =
+        let e : k ≡ step * suc d = omega (arith, g refl) in
+        record { depth = suc d; top_is = e; opens = ap (λ (j : ℕ). j ∷ ladder d) e }
+    go false true f false g w h = tt
+    go false false f v g true h =
+        let l = f refl in let m = h refl in
+        record { depth = k / step; top_is = omega arith; opens = pops ((top - k) / step) (k / step) d at end (omega arith) }
+    go false false f v g false h = tt
 
 indentation_leads : (s : List ℕ) (at d : ℕ) → Leading at d (indentation_at s at (step * d))
-indentation_leads s at d = indentation_cases (Leading at d) s at (step * d) tt tt (level_leads at (spaces_end_lem s at) d)
+unfolding indentation_at
+indentation_leads s at d = go (eqb b 9) (is_blank_line b)
+  where
+    b : ℕ
+    b = get_or s (spaces_end_lem s at) 0
+
+    go : (t u : Bool) → Leading at d (cond t (No 6 (spaces_end_lem s at)) (cond u (Blank (spaces_end_lem s at)) (level_of at (spaces_end_lem s at) (step * d))))
+    go true u = tt
+    go false true = tt
+    go false false = level_leads at (spaces_end_lem s at) d
 
 -- ---- along the scan
 
@@ -154,29 +160,22 @@ opened_append : (ks : List ℕ) (ts us : List Token) → opened ks (ts ++ us) �
 opened_append ks [] us = refl
 opened_append ks (t ∷ ts) us = opened_append (pushed ks t) ts us
 
-brackets_append : (k : ℕ) (ts us : List Token) → brackets_behind k (ts ++ us) ≡ brackets_behind (brackets_behind k ts) us
-brackets_append k [] us = refl
-brackets_append k (t ∷ ts) us = brackets_append (brackets_after t.code k) ts us
-
 prepend_twice : (ts us : List Token) (bs cs all : List ℕ) (r : Scan) → all ≡ bs ++ cs → prepend (ts ++ us) all r ≡ prepend ts bs (prepend us cs r)
 prepend_twice ts us bs cs all (scanned vs ds) e = rw (e, append_assoc ts us vs, append_assoc bs cs ds)
 prepend_twice ts us bs cs all (refused number place) e = refl
 
--- the scan's state where d levels are open
-abbrev scanner : State → ℕ → ℕ → Lexer
-scanner y d count = lexer y.at y.flag (step * d) (brackets_behind 0 y.tokens) count (length y.text)
-
 -- what follows is the same at each state whose tokens have d levels open; how many tokens the scan counts is not asked
 abbrev Alike : Rest → Onward → Type 0
-Alike rest on = (y : State) (d count : ℕ) → levels y.tokens ≡ ladder d → on y ≡ prepend y.tokens y.text (rest (scanner y d count))
+Alike rest on = (y : State) (d count : ℕ) → levels y.tokens ≡ ladder d
+    → on y ≡ prepend y.tokens y.text (rest (lexer y.at y.flag (step * d) count (length y.text)))
 
 module _ (s : List ℕ) (rest : Rest) (on : Onward) (alike : Alike rest on) (y : State) (d count : ℕ) (e : levels y.tokens ≡ ladder d) where
-  indent_alike : indent_on s on y ≡ prepend y.tokens y.text (indent_then s rest (scanner y d count))
+  indent_alike : indent_on s on y ≡ prepend y.tokens y.text (indent_then s rest (lexer y.at y.flag (step * d) count (length y.text)))
   unfolding indent_on indent_then
   indent_alike = rw (e, indentation_is s y.at d) (by_flag y.flag (indentation_at s y.at (step * d)) (indentation_leads s y.at d))
     where
       x : Lexer
-      x = scanner y d count
+      x = lexer y.at y.flag (step * d) count (length y.text)
 
       by_flag : (t : Bool) (i : Indentation) → Leading y.at d i
           → cond t (marks_on on y i) (on y) ≡ prepend y.tokens y.text (cond t (marks_then rest x i) (rest x))
@@ -184,24 +183,22 @@ module _ (s : List ℕ) (rest : Rest) (on : Onward) (alike : Alike rest on) (y :
       by_flag true (Blank end) l = alike (state end true y.tokens y.text) d count e
       by_flag true (Level end code n top) l =
           let us = replicate n (mark code y.at end) in
-          let z = state end false (y.tokens ++ us) y.text in
-          let stay : brackets_behind 0 (y.tokens ++ us) ≡ brackets_behind 0 y.tokens = brackets_append 0 y.tokens us ∙ l.brackets_stay _ in
-          rw (l.top_is, ← stay)
-          (alike z l.depth (count + n) (opened_append (0 ∷ []) y.tokens us ∙ ap (λ (ks : List ℕ). opened ks us) e ∙ l.opens)
-          ∙ prepend_twice y.tokens us y.text [] y.text (rest (scanner z l.depth (count + n))) (sym (append-nil y.text)))
+          rw l.top_is
+          (alike (state end false (y.tokens ++ us) y.text) l.depth (count + n) (opened_append (0 ∷ []) y.tokens us ∙ ap (λ (ks : List ℕ). opened ks us) e ∙ l.opens)
+          ∙ prepend_twice y.tokens us y.text [] y.text (rest (lexer end false (step * l.depth) (count + n) (length y.text))) (sym (append-nil y.text)))
       by_flag true (No number place) l = refl
 
-  token_alike : token_on s on y ≡ prepend y.tokens y.text (token_then s rest (scanner y d count))
+  token_alike : token_on s on y ≡ prepend y.tokens y.text (token_then s rest (lexer y.at y.flag (step * d) count (length y.text)))
   unfolding token_on token_then closed_on closed
   token_alike = by_token (ltb start (length s)) (token_at_lem s start) refl
     where
       start : ℕ
-      start = gap_end_lem (inside (brackets_behind 0 y.tokens)) s y.at
+      start = gap_end_lem s y.at
 
       x : Lexer
-      x = scanner y d count
+      x = lexer y.at y.flag (step * d) count (length y.text)
 
-      -- a raw token opens and closes no level
+      -- a raw token opens and closes nothing
       stays : (code end : ℕ) (v : Literal) → token_at_lem s start ≡ Found code end → levels (y.tokens ++ token code start end v ∷ []) ≡ ladder d
       stays code end v f =
           let c = raw_code s start code end f in
@@ -210,10 +207,10 @@ module _ (s : List ℕ) (rest : Rest) (on : Onward) (alike : Alike rest on) (y :
       by_value : (code end : ℕ) (bs : List ℕ) → token_at_lem s start ≡ Found code end → (v : Lexed)
           → value_on on y code start end bs v ≡ prepend y.tokens y.text (value_then rest x code start end bs v)
       by_value code end bs f (Value v) =
-          let us = token code start end v ∷ [] in
-          let z = state end (flag_after code y.flag) (y.tokens ++ us) (y.text ++ bs) in
-          rw (← length-append y.text bs, ← brackets_append 0 y.tokens us)
-          (alike z d (count + 1) (stays code end v f) ∙ prepend_twice y.tokens us y.text bs (y.text ++ bs) (rest (scanner z d (count + 1))) refl)
+          let flag = eqb code Code.Newline || y.flag in
+          rw (← length-append y.text bs)
+          (alike (state end flag (y.tokens ++ token code start end v ∷ []) (y.text ++ bs)) d (count + 1) (stays code end v f)
+          ∙ prepend_twice y.tokens (token code start end v ∷ []) y.text bs (y.text ++ bs) (rest (lexer end flag (step * d) (count + 1) (length (y.text ++ bs)))) refl)
       by_value code end bs f Refused = refl
 
       by_token : (t : Bool) (k : RawToken) → token_at_lem s start ≡ k
@@ -238,4 +235,4 @@ prepend_nothing (refused number place) = refl
 -- "the count must be a level", and a level is one that was opened: what 8 asks for is the column of an open Indent of the token list so far, or 0
 pub by_stack : (s : List ℕ) → token_list_by_stack s ≡ token_list s
 unfolding token_list_by_stack token_list
-by_stack s = on_alike (suc (length s)) s (state 0 true [] []) 0 0 refl ∙ prepend_nothing (scan_from (suc (length s)) s (lexer 0 true 0 0 0 0))
+by_stack s = on_alike (suc (length s)) s (state 0 true [] []) 0 0 refl ∙ prepend_nothing (scan_from (suc (length s)) s (lexer 0 true 0 0 0))

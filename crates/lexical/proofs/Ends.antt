@@ -31,15 +31,13 @@ passed s at n b w =
     let e : take n (drop at s) ++ drop (at + n) s ≡ drop at s = rw (← drop-drop n at s) (take-append-drop n (drop at s)) in
     (rw (take-add at n s) (both_well (take at s) (take n (drop at s)) b.0 w), behind_well (take n (drop at s)) (drop (at + n) s) w (rw e b.1))
 
--- before a byte under 128, and behind it
-module _ (a : List ℕ) (b : ℕ) (r : List ℕ) (h : b < 128) (w : utf8_error_lem (a ++ b ∷ r) ≡ WellFormed) where
-  pub before_low : (utf8_error_lem a ≡ WellFormed) × (utf8_error_lem (b ∷ r) ≡ WellFormed)
-  before_low =
-      let x = between_characters (a ++ b ∷ r) (length a) w (omega (arith, length-append a (b ∷ r))) (rw (get_or-append_seam a b r 0) h) in
-      (rw (take-append_seam a (b ∷ r)) at x.0, rw (drop-append_seam a (b ∷ r)) at x.1)
-
-  pub behind_low : (utf8_error_lem (a ++ b ∷ []) ≡ WellFormed) × (utf8_error_lem r ≡ WellFormed)
-  behind_low = (both_well a (b ∷ []) before_low.0 (low_well b h), behind_well (b ∷ []) r (low_well b h) before_low.1)
+-- behind a byte under 128
+behind_low : (a : List ℕ) (b : ℕ) (r : List ℕ) → b < 128 → utf8_error_lem (a ++ b ∷ r) ≡ WellFormed → (utf8_error_lem (a ++ b ∷ []) ≡ WellFormed) × (utf8_error_lem r ≡ WellFormed)
+behind_low a b r h w =
+    let x = between_characters (a ++ b ∷ r) (length a) w (omega (arith, length-append a (b ∷ r))) (rw (get_or-append_seam a b r 0) h) in
+    let f : utf8_error_lem a ≡ WellFormed = rw (take-append_seam a (b ∷ r)) at x.0 in
+    let g : utf8_error_lem (b ∷ r) ≡ WellFormed = rw (drop-append_seam a (b ∷ r)) at x.1 in
+    (both_well a (b ∷ []) f (low_well b h), behind_well (b ∷ []) r (low_well b h) g)
 
 -- ---- the words of the patterns
 

@@ -2,15 +2,17 @@
 -- character over 127 where a token would start gets 9" (02, change 1).
 -- Assumes nothing.
 use mathlib.Core.Path.{◌≡◌, refl, subst}
-use mathlib.Core.Bool.{Bool, true, false, cond, ◌&&◌, ◌||◌, true≢false}
-use mathlib.Core.List.{List, [], ◌∷◌, ◌++◌, append_assoc, append-nil}
-use Prim.Native.Nat.{ℕ, zero, suc, ◌+◌, ◌-◌, ◌<◌}
+use mathlib.Core.Bool.{Bool, true, false, cond, ◌||◌}
+use mathlib.Core.List.{List, [], ◌∷◌}
+use mathlib.Core.Logic.{◌⊎◌, inl, inr, ⊎_elim}
+use Prim.Native.Nat.{ℕ, zero, suc, ◌+◌, ◌-◌, ◌/◌, ◌<◌}
 use native.Mathlib.Omega.{arith}
 use lib.Dec.{eqb, ltb}
-use lib.ListN.{length, take, drop}
+use lib.ListN.{length, get_or, take, drop}
+use lib.Seq.{take_all}
 use borrow.Author.Tests.{eqb-true, ltb-true}
 use Rattle.source.specs.Bytes.{part, run}
-use Rattle.source.proofs.Bools.{and_right, or_either}
+use Rattle.source.proofs.Bools.{or_either}
 use Rattle.token.specs.Code as Code
 use Rattle.tokens.specs.Token.{Token}
 use Rattle.utf8.specs.Table.{first_ill_formed, utf8_error_lem}
@@ -21,17 +23,15 @@ use Rattle.raw_token.specs.Table.{token_at_lem}
 use Rattle.raw_token.specs.declared.RawToken.{RawToken}
 use Rattle.raw_token.specs.declared.RawToken.TheVariants.{Found, NoMatch}
 use Rattle.spacing.specs.Gap.{is_blank, gap, gap_end_lem}
-use Rattle.spacing.specs.Indentation.{is_space, spaces_end_lem, indentation_at}
+use Rattle.spacing.specs.Indentation.{step, is_space, is_blank_line, is_level, level_of, spaces_end_lem, indentation_at}
 use Rattle.spacing.specs.declared.line.Indentation.{Indentation}
 use Rattle.spacing.specs.declared.line.Indentation.TheVariants.{Blank, Level, No}
-use Rattle.spacing.proofs.Levels.{level_cases, indentation_cases}
-use Rattle.spacing.specs.Brackets.{brackets_after, flag_after, inside}
 use Rattle.lexer.specs.Value.{value_of, text_of}
 use Rattle.lexer.specs.Scan.{Scan, scanned, refused, prepend, lexer, Rest, marks_then, indent_then, closed, value_then, found_then, token_then, scan_from, token_list}
 use Rattle.lexer.specs.declared.Lexer.{Lexer}
-use Rattle.lexical.proofs.WellFormed.{both_well, low_well}
-use Rattle.lexical.proofs.Boundaries.{Between}
-use Rattle.lexical.proofs.Ends.{passed, before_low, behind_low, ends_at}
+use Rattle.lexical.proofs.WellFormed.{both_well, behind_well, low_well}
+use Rattle.lexical.proofs.Boundaries.{Between, between_characters}
+use Rattle.lexical.proofs.Ends.{passed, ends_at}
 
 -- ---- what is skipped is whole characters
 
@@ -48,45 +48,53 @@ spaces_well (b ∷ l) = go (eqb b 32) (eqb-true b 32) (spaces_well l)
     go true f r = let e = f refl in both_well (b ∷ []) (take (run is_space l) l) (low_well b (omega arith)) r
     go false f r = nil_well
 
-low_blank : (inside : Bool) (b : ℕ) → is_blank inside b ≡ true → b < 128
-low_blank inside b =
-    or_either (eqb b 32 || eqb b 9 || eqb b 13) (inside && eqb b 10)
-    (or_either (eqb b 32 || eqb b 9) (eqb b 13) (or_either (eqb b 32) (eqb b 9) (is 32 (omega arith)) (is 9 (omega arith))) (is 13 (omega arith)))
-    (λ e. is 10 (omega arith) (and_right inside (eqb b 10) e))
+-- a comment ends before a line feed or with the list
+comment_stops : (l : List ℕ) → (gap true l ≡ length l) ⊎ ((gap true l < length l) × (get_or l (gap true l) 0 ≡ 10))
+comment_stops [] = inl refl
+comment_stops (b ∷ l) = go (eqb b 10) (eqb-true b 10) (comment_stops l)
   where
-    is : (k : ℕ) → k < 128 → eqb b k ≡ true → b < 128
-    is k h e = omega (arith, eqb-true b k e)
+    go : (t : Bool) → (t ≡ true → b ≡ 10) → (gap true l ≡ length l) ⊎ ((gap true l < length l) × (get_or l (gap true l) 0 ≡ 10))
+        → (cond t 0 (suc (gap true l)) ≡ suc (length l)) ⊎ ((cond t 0 (suc (gap true l)) < suc (length l)) × (get_or (b ∷ l) (cond t 0 (suc (gap true l))) 0 ≡ 10))
+    go true f x = inr (omega arith, f refl)
+    go false f (inl e) = inl (omega arith)
+    go false f (inr x) = inr (omega (arith, x.0), x.1)
 
--- blanks and comments behind p, a byte at a time: at the byte b, where `on` says it of what follows once b has joined p
-module _ (inside : Bool) (b : ℕ) (l p : List ℕ) (w : utf8_error_lem (p ++ b ∷ l) ≡ WellFormed) (on : (c : Bool) → (c ≡ false → b < 128) → utf8_error_lem (p ++ b ∷ take (gap inside c l) l) ≡ WellFormed) where
-  at_byte : (c : Bool) → (c ≡ false → utf8_error_lem p ≡ WellFormed) → utf8_error_lem (p ++ take (gap inside c (b ∷ l)) (b ∷ l)) ≡ WellFormed
-  at_byte true v = go (eqb b 10) (eqb-true b 10) inside
-    where
-      go : (t : Bool) → (t ≡ true → b ≡ 10) → (i : Bool) → utf8_error_lem (p ++ take (cond t (cond i (suc (gap inside false l)) 0) (suc (gap inside true l))) (b ∷ l)) ≡ WellFormed
-      go true f true = on false (λ e. omega (arith, f refl))
-      go true f false = rw (append-nil p) (before_low p b l (omega (arith, f refl)) w).0
-      go false f i = on true (λ e. absurd (true≢false e))
-  at_byte false v = go (is_blank inside b) (low_blank inside b) (eqb b 35)
-    where
-      go : (t : Bool) → (t ≡ true → b < 128) → (u : Bool) → utf8_error_lem (p ++ take (cond t (suc (gap inside false l)) (cond u (suc (gap inside true l)) 0)) (b ∷ l)) ≡ WellFormed
-      go true f u = on false (λ e. f refl)
-      go false f true = on true (λ e. absurd (true≢false e))
-      go false f false = rw (append-nil p) (v refl)
+comment_well : (l : List ℕ) → utf8_error_lem l ≡ WellFormed → utf8_error_lem (take (gap true l) l) ≡ WellFormed
+comment_well l w =
+    ⊎_elim
+    (λ e. rw (take_all (gap true l) l (omega arith)) w)
+    (λ x. let e = x.1 in (between_characters l (gap true l) w x.0 (omega arith)).0)
+    (comment_stops l)
 
--- and of all; p is whole characters, but within a comment it may end anywhere
-gap_well : (inside comment : Bool) (l p : List ℕ) → utf8_error_lem (p ++ l) ≡ WellFormed → (comment ≡ false → utf8_error_lem p ≡ WellFormed) → utf8_error_lem (p ++ take (gap inside comment l) l) ≡ WellFormed
-gap_well inside comment [] p w v = w
-gap_well inside comment (b ∷ l) p w v =
-    at_byte inside b l p w
-    (λ c h. rw append_assoc at (gap_well inside c l (p ++ b ∷ []) (rw append_assoc w) (λ e. (behind_low p b l (h e) w).0)))
-    comment v
+low_blank : (b : ℕ) → is_blank b ≡ true → b < 128
+low_blank b =
+    or_either (eqb b 32 || eqb b 9) (eqb b 13)
+    (or_either (eqb b 32) (eqb b 9) (λ e. let n = eqb-true b 32 e in omega arith) (λ e. let n = eqb-true b 9 e in omega arith))
+    (λ e. let n = eqb-true b 13 e in omega arith)
+
+-- blanks and comments
+gap_well : (l : List ℕ) → utf8_error_lem l ≡ WellFormed → utf8_error_lem (take (gap false l) l) ≡ WellFormed
+gap_well [] w = nil_well
+gap_well (b ∷ l) w = go (is_blank b) (eqb b 35) (low_blank b) (eqb-true b 35) (gap_well l)
+  where
+    rest : b < 128 → utf8_error_lem l ≡ WellFormed
+    rest h = behind_well (b ∷ []) l (low_well b h) w
+
+    go : (t u : Bool) → (t ≡ true → b < 128) → (u ≡ true → b ≡ 35) → (utf8_error_lem l ≡ WellFormed → utf8_error_lem (take (gap false l) l) ≡ WellFormed)
+        → utf8_error_lem (take (cond t (suc (gap false l)) (cond u (suc (gap true l)) 0)) (b ∷ l)) ≡ WellFormed
+    go true u f g r = let h = f refl in both_well (b ∷ []) (take (gap false l) l) (low_well b h) (r (rest h))
+    go false true f g r =
+        let e = g refl in
+        let h : b < 128 = omega arith in
+        both_well (b ∷ []) (take (gap true l) l) (low_well b h) (comment_well l (rest h))
+    go false false f g r = nil_well
 
 spaces_at : (s : List ℕ) (at : ℕ) → Between s at → Between s (spaces_end_lem s at)
 spaces_at s at b = passed s at (run is_space (drop at s)) b (spaces_well (drop at s))
 
-gap_at : (inside : Bool) (s : List ℕ) (at : ℕ) → Between s at → Between s (gap_end_lem inside s at)
+gap_at : (s : List ℕ) (at : ℕ) → Between s at → Between s (gap_end_lem s at)
 unfolding gap_end_lem
-gap_at inside s at b = passed s at (gap inside false (drop at s)) b (gap_well inside false (drop at s) [] b.1 (λ e. nil_well))
+gap_at s at b = passed s at (gap false (drop at s)) b (gap_well (drop at s) b.1)
 
 -- ---- along the scan
 
@@ -105,10 +113,25 @@ Spaces s (Blank end) = Between s end
 Spaces s (Level end code n top) = Between s end
 Spaces s (No number place) = number ≡ 9 → ⊥
 
+level_at : (s : List ℕ) (at end top : ℕ) → Between s end → Spaces s (level_of at end top)
+unfolding level_of
+level_at s at end top b = go (eqb (end - at) top) (ltb top (end - at)) (eqb (end - at) (top + step)) (is_level (end - at))
+  where
+    go : (t u v w : Bool) → Spaces s (cond t (Level end Code.Dedent 0 top) (cond u (cond v (Level end Code.Indent 1 (end - at)) (No 7 at)) (cond w (Level end Code.Dedent ((top - (end - at)) / step) (end - at)) (No 8 at))))
+    go true u v w = b
+    go false true true w = b
+    go false true false w = λ e. omega arith
+    go false false v true = b
+    go false false v false = λ e. omega arith
+
 indentation-at : (s : List ℕ) (at top : ℕ) → Between s at → Spaces s (indentation_at s at top)
-indentation-at s at top b =
-    let e = spaces_at s at b in
-    indentation_cases (Spaces s) s at top (λ n. omega arith) e (level_cases (Spaces s) at (spaces_end_lem s at) top (λ q. e) (λ q. e) (λ n. omega arith) (λ m q. e) (λ n. omega arith))
+unfolding indentation_at
+indentation-at s at top b = go (eqb (get_or s (spaces_end_lem s at) 0) 9) (is_blank_line (get_or s (spaces_end_lem s at) 0)) (spaces_at s at b)
+  where
+    go : (t u : Bool) → Between s (spaces_end_lem s at) → Spaces s (cond t (No 6 (spaces_end_lem s at)) (cond u (Blank (spaces_end_lem s at)) (level_of at (spaces_end_lem s at) top)))
+    go true u h = λ e. omega arith
+    go false true h = h
+    go false false h = level_at s at (spaces_end_lem s at) top h
 
 -- so it is from every state between characters
 abbrev Onward : List ℕ → Rest → Type 0
@@ -121,8 +144,8 @@ module _ (s : List ℕ) (w : utf8_error_lem s ≡ WellFormed) (rest : Rest) (h :
     where
       go : (t : Bool) (i : Indentation) → Spaces s i → Nine s (cond t (marks_then rest x i) (rest x))
       go false i k = h x b
-      go true (Blank end) k = h (lexer end true x.top x.brackets x.count x.used) k
-      go true (Level end code n top) k = nine_prepend s _ [] (rest (lexer end false top x.brackets (x.count + n) x.used)) (h (lexer end false top x.brackets (x.count + n) x.used) k)
+      go true (Blank end) k = h (lexer end true x.top x.count x.used) k
+      go true (Level end code n top) k = nine_prepend s _ [] (rest (lexer end false top (x.count + n) x.used)) (h (lexer end false top (x.count + n) x.used) k)
       go true (No number place) k = λ e. absurd (k e)
 
   token_nine : Onward s (token_then s rest)
@@ -130,14 +153,11 @@ module _ (s : List ℕ) (w : utf8_error_lem s ≡ WellFormed) (rest : Rest) (h :
   token_nine x b = by_end (ltb start (length s)) (ltb-true start (length s))
     where
       start : ℕ
-      start = gap_end_lem (inside x.brackets) s x.at
-
-      here : Between s start
-      here = gap_at (inside x.brackets) s x.at b
+      start = gap_end_lem s x.at
 
       by_value : (code end : ℕ) (bs : List ℕ) (v : Lexed) → Between s end → Nine s (value_then rest x code start end bs v)
       by_value code end bs (Value v) k =
-          let y = lexer end (flag_after code x.flag) x.top (brackets_after code x.brackets) (x.count + 1) (x.used + length bs) in
+          let y = lexer end (eqb code Code.Newline || x.flag) x.top (x.count + 1) (x.used + length bs) in
           nine_prepend s _ bs (rest y) (h y k)
       by_value code end bs Refused k = other (eqb code Code.Int)
         where
@@ -146,9 +166,9 @@ module _ (s : List ℕ) (w : utf8_error_lem s ≡ WellFormed) (rest : Rest) (h :
           other false = λ e. absurd (omega arith)
 
       by_token : start < length s → (k : RawToken) → token_at_lem s start ≡ k → Nine s (found_then s rest x start k)
-      by_token l NoMatch f = λ e. (l, here, f)
+      by_token l NoMatch f = λ e. (l, gap_at s x.at b, f)
       by_token l (Found code end) f =
-          by_value code end (text_of code (part s start end)) (value_of code (part s start end) x.used) (ends_at s start code end w f here)
+          by_value code end (text_of code (part s start end)) (value_of code (part s start end) x.used) (ends_at s start code end w f (gap_at s x.at b))
 
       by_end : (t : Bool) → (t ≡ true → start < length s) → Nine s (cond t (found_then s rest x start (token_at_lem s start)) (closed (length s) x))
       by_end false l = tt
@@ -162,4 +182,4 @@ scan_nine s w (suc f) x b = indent_nine s w (token_then s (scan_from f s)) (toke
 -- 9 stands at the first byte of a character of the source, at which no token matches
 pub nine : (s : List ℕ) (p : ℕ) → utf8_error_lem s ≡ WellFormed → token_list s ≡ refused 9 p → (p < length s) × Between s p × (token_at_lem s p ≡ NoMatch)
 unfolding token_list
-nine s p w e = subst (Nine s) e (scan_nine s w (suc (length s)) (lexer 0 true 0 0 0 0) (nil_well, w)) refl
+nine s p w e = subst (Nine s) e (scan_nine s w (suc (length s)) (lexer 0 true 0 0 0) (nil_well, w)) refl

@@ -1,9 +1,8 @@
 -- The token list once more, by the indentation stack. The state is what was read so far and nothing else: the place, the flag, the tokens and the text.
 -- No top is counted: a line's spaces are compared with the columns of the open Indents of the tokens so far, and at the end each of these is closed.
--- Nor are brackets: those that are open are read off the tokens so far (`brackets_behind`).
 -- Read beside Scan.antt of lexer: the functions are those, one for one. That both are one token list is the law `by_stack` (proofs/ByStack.antt).
 -- Assumes nothing.
-use Rattle.std.specs.Prelude.{ℕ, zero, suc, Bool, true, false, cond, List, [], ◌∷◌, ◌++◌, ltb, length, replicate}
+use Rattle.std.specs.Prelude.{ℕ, zero, suc, Bool, true, false, cond, ◌||◌, List, [], ◌∷◌, ◌++◌, eqb, ltb, length, replicate}
 use Rattle.source.specs.Bytes.{part}
 use Rattle.token.specs.Code as Code
 use Rattle.tokens.specs.Token.{Token, token}
@@ -13,10 +12,8 @@ use Rattle.raw_token.specs.declared.RawToken.TheVariants.{Found, NoMatch}
 use Rattle.literal.specs.declared.Lexed.{Lexed}
 use Rattle.literal.specs.declared.Lexed.TheVariants.{Value, Refused}
 use Rattle.spacing.specs.Gap.{gap_end_lem}
-use Rattle.spacing.specs.Brackets.{flag_after, inside}
 use Rattle.lexer.specs.Value.{value_of, refusal_of, text_of}
 use Rattle.lexer.specs.Scan.{Scan, scanned, refused, mark}
-use Rattle.lexer.specs.Lines.{brackets_behind}
 use Rattle.spacing.specs.declared.line.Indentation.{Indentation}
 use Rattle.spacing.specs.declared.line.Indentation.TheVariants.{Blank, Level, No}
 use Rattle.lexical.specs.Stack.{levels, above, indentation_among}
@@ -50,10 +47,10 @@ indent_on s on x = cond x.flag (marks_on on x (indentation_among s x.at (levels 
 unfoldable pub closed_on : ℕ → State → Scan
 closed_on n x = scanned (x.tokens ++ (replicate (above 0 (levels x.tokens)) (mark Code.Dedent n n) ++ mark Code.Eof n n ∷ [])) x.text
 
--- a token with its value and its text, and on; "an opener clears the flag" (02, change 7)
+-- a token with its value and its text, and on
 abbrev pub value_on : Onward → State → ℕ → ℕ → ℕ → List ℕ → Lexed → Scan
 value_on on x code start end bs (Value v) =
-    on (state end (flag_after code x.flag) (x.tokens ++ token code start end v ∷ []) (x.text ++ bs))
+    on (state end (eqb code Code.Newline || x.flag) (x.tokens ++ token code start end v ∷ []) (x.text ++ bs))
 value_on on x code start end bs Refused = refused (refusal_of code) start
 
 abbrev pub found_on : List ℕ → Onward → State → ℕ → RawToken → Scan
@@ -61,10 +58,9 @@ found_on s on x start (Found code end) =
     value_on on x code start end (text_of code (part s start end)) (value_of code (part s start end) (length x.text))
 found_on s on x start NoMatch = refused 9 start
 
--- the next token, behind what is skipped: "Inside ( [ { a line feed is skipped like a space .. inside means a count above zero" (02, change 7)
 unfoldable pub token_on : List ℕ → Onward → State → Scan
 token_on s on x =
-    let start = gap_end_lem (inside (brackets_behind 0 x.tokens)) s x.at in
+    let start = gap_end_lem s x.at in
     cond (ltb start (length s))
     (found_on s on x start (token_at_lem s start))
     (closed_on (length s) x)

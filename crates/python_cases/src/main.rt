@@ -11,8 +11,8 @@ mod answers;
 
 use answers::print_answer;
 use cases::hex::unhex;
+use cases::lines::line_end;
 use cases::print;
-use source::line_end;
 
 fn print_case(line: &[u8]) {
     print(line);

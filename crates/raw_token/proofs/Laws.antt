@@ -194,7 +194,7 @@ feed_first string b f h = absurd (true≢false (sym f))
 feed_first name b f h = absurd (true≢false (sym f))
 feed_first float b f h = absurd (true≢false (sym f))
 
--- a token that starts at a line feed is a Newline, and a Newline is one line feed
+-- a line feed is a Newline, and a Newline is one line feed
 pub newline_at : (s : List ℕ) (at : ℕ) → get_or s at 0 ≡ 10 → token_at_lem s at ≡ Found Newline (at + 1)
 unfolding table
 newline_at s at e = single s at 10 10 (inside s at (omega arith)) e refl Newline refl

@@ -1,4 +1,4 @@
--- The scanner's steps at the start of a line, where no bracket is open: over the spaces that count, with their marks, and the end.
+-- The scanner's steps at the start of a line: over the spaces that count, with their marks, and the end.
 -- Assumes nothing.
 use mathlib.Core.Path.{◌≡◌, refl, sym, ap, ◌∙◌}
 use mathlib.Core.Bool.{Bool, true, false, cond}
@@ -19,7 +19,6 @@ use Rattle.spacing.specs.Indentation.{step, is_space, level_of, spaces_end_lem}
 use Rattle.spacing.specs.declared.line.Indentation.{Indentation}
 use Rattle.spacing.specs.declared.line.Indentation.TheVariants.{Level}
 use Rattle.spacing.proofs.Levels.{level_same, level_deeper, level_back, measure_level}
-use Rattle.spacing.specs.Brackets.{inside}
 use Rattle.lexer.specs.Scan.{scanned, mark, lexer, marks_then, indent_then, closed, token_then}
 use Rattle.lexer.proofs.Enough.{from, from_is}
 use Rattle.lexer.proofs.Finding.{next_closed}
@@ -68,19 +67,19 @@ module _ (at top level : ℕ) (rises : level ≤ suc top) where
 
 -- the marks of a line's spaces, and then the rest: b is the byte behind the spaces
 module _ (s : List ℕ) (at top level used b : ℕ) (within : at + step * level ≤ length s) (rises : level ≤ suc top) (isEnd : at + step * level ≡ spaces_end_lem s at) (is_b : b ≡ get_or s (at + step * level) 0) (other : NotIn (35 ∷ 13 ∷ 10 ∷ 9 ∷ []) b)
-    (count : ℕ) (ts : List Token) (bs : List ℕ) (next : from s (lexer (at + step * level) false (step * level) 0 (count + mark_count top level) used) ≡ scanned ts bs) where
-  marks_scan : (t : Bool) → from s (lexer (at + step * level) false (step * level) 0 (count + cond t 1 (top - level)) used) ≡ scanned ts bs
-      → marks_then (token_then s (from s)) (lexer at true (step * top) 0 count used) (cond t (Level (at + step * level) Code.Indent 1 (step * level)) (Level (at + step * level) Code.Dedent (top - level) (step * level)))
+    (count : ℕ) (ts : List Token) (bs : List ℕ) (next : from s (lexer (at + step * level) false (step * level) (count + mark_count top level) used) ≡ scanned ts bs) where
+  marks_scan : (t : Bool) → from s (lexer (at + step * level) false (step * level) (count + cond t 1 (top - level)) used) ≡ scanned ts bs
+      → marks_then (token_then s (from s)) (lexer at true (step * top) count used) (cond t (Level (at + step * level) Code.Indent 1 (step * level)) (Level (at + step * level) Code.Dedent (top - level) (step * level)))
       ≡ scanned (cond t (mark Code.Indent at (at + step * level) ∷ []) (replicate (top - level) (mark Code.Dedent at (at + step * level))) ++ ts) bs
-  marks_scan true k = rw (← plain_from s (at + step * level) level 0 (count + 1) used within, k)
-  marks_scan false k = rw (← plain_from s (at + step * level) level 0 (count + (top - level)) used within, k)
+  marks_scan true k = rw (← plain_from s (at + step * level) level (count + 1) used within, k)
+  marks_scan false k = rw (← plain_from s (at + step * level) level (count + (top - level)) used within, k)
 
-  spaces_scan : from s (lexer at true (step * top) 0 count used) ≡ scanned (level_marks top level at ++ ts) bs
+  spaces_scan : from s (lexer at true (step * top) count used) ≡ scanned (level_marks top level at ++ ts) bs
   unfolding indent_then at_level
   spaces_scan =
       let i = measure_level s at (step * top) (at + step * level) isEnd b is_b other (at_level at top level rises (at + step * level) refl) (level_is at top level rises (at + step * level) refl) in
-      from_is s (lexer at true (step * top) 0 count used) (omega arith, omega arith)
-      ∙ ap (marks_then (token_then s (from s)) (lexer at true (step * top) 0 count used)) (sym i)
+      from_is s (lexer at true (step * top) count used) (omega arith, omega arith)
+      ∙ ap (marks_then (token_then s (from s)) (lexer at true (step * top) count used)) (sym i)
       ∙ marks_scan (ltb top level) next
 
 -- a line with a token on it
@@ -92,8 +91,8 @@ pub record Starts (l : List ℕ) : Type 0 where
 
 pub line_step : (s : List ℕ) (top level : ℕ) (r : List ℕ) (at count used : ℕ) (ts : List Token) (bs : List ℕ) → level ≤ suc top → Starts r
     → at ≤ length s → drop at s ≡ replicate (step * level) 32 ++ r
-    → from s (lexer (at + step * level) false (step * level) 0 (count + mark_count top level) used) ≡ scanned ts bs
-    → from s (lexer at true (step * top) 0 count used) ≡ scanned (level_marks top level at ++ ts) bs
+    → from s (lexer (at + step * level) false (step * level) (count + mark_count top level) used) ≡ scanned ts bs
+    → from s (lexer at true (step * top) count used) ≡ scanned (level_marks top level at ++ ts) bs
 line_step s top level r at count used ts bs rises i h e next =
     let n = step * level in
     let low = i.inked.low in
@@ -105,16 +104,16 @@ line_step s top level r at count used ts bs rises i h e next =
 
 -- ---- the end
 
-end_scan : (s : List ℕ) (at count used : ℕ) → at ≡ length s → from s (lexer at false (step * 0) 0 count used) ≡ scanned (mark Code.Eof at at ∷ []) []
+end_scan : (s : List ℕ) (at count used : ℕ) → at ≡ length s → from s (lexer at false (step * 0) count used) ≡ scanned (mark Code.Eof at at ∷ []) []
 unfolding closed gap_end_lem
 end_scan s at count used h =
-    let g : at ≡ gap_end_lem (inside 0) s at = omega (arith, gap_at_end s at h) in
-    plain_from s at 0 0 count used (omega arith) ∙ next_closed s (lexer at false (step * 0) 0 count used) at g (omega arith) (from s) ∙ rw (← h)
+    let g : at ≡ gap_end_lem s at = omega (arith, gap_at_end s at h) in
+    plain_from s at 0 count used (omega arith) ∙ next_closed s (lexer at false (step * 0) count used) at g (omega arith) (from s) ∙ rw (← h)
   where
-    gap_at_end : (s : List ℕ) (at : ℕ) → at ≡ length s → gap false false (drop at s) ≡ 0
-    gap_at_end s at h = ap (gap false false) (past s at (omega arith))
+    gap_at_end : (s : List ℕ) (at : ℕ) → at ≡ length s → gap false (drop at s) ≡ 0
+    gap_at_end s at h = ap (gap false) (past s at (omega arith))
 
-pub end_step : (s : List ℕ) (top at count used : ℕ) → at ≤ length s → drop at s ≡ [] → from s (lexer at true (step * top) 0 count used) ≡ scanned (replicate top (mark Code.Dedent at at) ++ mark Code.Eof at at ∷ []) []
+pub end_step : (s : List ℕ) (top at count used : ℕ) → at ≤ length s → drop at s ≡ [] → from s (lexer at true (step * top) count used) ≡ scanned (replicate top (mark Code.Dedent at at) ++ mark Code.Eof at at ∷ []) []
 end_step s top at count used h e =
     let n = length_at s at [] e in
     let z : at + step * 0 ≡ at = omega arith in

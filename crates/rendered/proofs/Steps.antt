@@ -1,11 +1,11 @@
--- The scanner's steps within a line, where k brackets are open: over a space, over a token with its value, and, where none is open, over the line feed. What
--- follows is given by what it is read as.
+-- The scanner's steps within a line: over a space, over a token with its value, and over the line feed. What follows is given by what it is read as.
 -- Assumes nothing.
 use mathlib.Core.Path.{◌≡◌, refl, sym, ap, ◌∙◌}
-use mathlib.Core.Bool.{Bool, true, false, cond}
+use mathlib.Core.Bool.{true, false, ◌||◌}
 use mathlib.Core.List.{List, [], ◌∷◌, ◌++◌}
 use Prim.Native.Nat.{ℕ, ◌+◌, ◌*◌, ◌<◌, ◌≤◌}
 use native.Mathlib.Omega.{arith}
+use lib.Dec.{eqb}
 use lib.ListN.{length, drop, length-append}
 use borrow.Author.Tests.{ne_eqb}
 use Rattle.source.specs.Bytes.{part}
@@ -22,8 +22,6 @@ use Rattle.literal.specs.declared.Lexed.{Lexed}
 use Rattle.literal.specs.declared.Lexed.TheVariants.{Value, Refused}
 use Rattle.spacing.specs.Gap.{gap, gap_end_lem}
 use Rattle.spacing.specs.Indentation.{step}
-use Rattle.spacing.specs.Brackets.{is_opener, brackets_after, flag_after, inside}
-use Rattle.spacing.proofs.Gaps.{no_blank}
 use Rattle.lexer.specs.Value.{value_of, text_of}
 use Rattle.lexer.specs.Scan.{scanned, prepend, lexer, mark, Rest, indent_then, closed, value_then, found_then, token_then}
 use Rattle.lexer.specs.declared.Lexer.{Lexer}
@@ -37,71 +35,64 @@ use Rattle.rendered.proofs.Inked.{Inked, inked}
 -- ---- one token
 
 -- a token with its value, where the next one starts at `start`
-token_scan : (s : List ℕ) (rest : Rest) (x : Lexer) (start code : ℕ) (w r : List ℕ) (v : Literal) → start ≡ gap_end_lem (inside x.brackets) s x.at → drop start s ≡ w ++ r
+token_scan : (s : List ℕ) (rest : Rest) (x : Lexer) (start code : ℕ) (w r : List ℕ) (v : Literal) → start ≡ gap_end_lem s x.at → drop start s ≡ w ++ r
     → token_at_lem (w ++ r) 0 ≡ Found code (length w) → 0 < length w → value_of code w x.used ≡ Value v
     → token_then s rest x
     ≡ prepend (token code start (start + length w) v ∷ []) (text_of code w)
-    (rest (lexer (start + length w) (flag_after code x.flag) x.top (brackets_after code x.brackets) (x.count + 1) (x.used + length (text_of code w))))
+    (rest (lexer (start + length w) (eqb code Code.Newline || x.flag) x.top (x.count + 1) (x.used + length (text_of code w))))
 token_scan s rest x start code w r v g e f n val =
     next_found s x start g (omega (arith, length_at s start (w ++ r) e, length-append w r)) (Found code (start + length w)) (token-at s start code w r e f) rest
     ∙ rw (part_at s start w r e, val)
 
 -- the flag cleared: no spaces are counted
-pub plain_from : (s : List ℕ) (at top k count used : ℕ) → at ≤ length s → from s (lexer at false (step * top) k count used) ≡ token_then s (from s) (lexer at false (step * top) k count used)
+pub plain_from : (s : List ℕ) (at top count used : ℕ) → at ≤ length s → from s (lexer at false (step * top) count used) ≡ token_then s (from s) (lexer at false (step * top) count used)
 unfolding indent_then
-plain_from s at top k count used h = from_is s (lexer at false (step * top) k count used) (h, omega arith)
+plain_from s at top count used h = from_is s (lexer at false (step * top) count used) (h, omega arith)
 
 -- ---- a space
 
-space_gap : (i : Bool) (s : List ℕ) (at : ℕ) (r : List ℕ) → drop at s ≡ 32 ∷ r → gap_end_lem i s at ≡ gap_end_lem i s (at + 1)
+space_gap : (s : List ℕ) (at : ℕ) (r : List ℕ) → drop at s ≡ 32 ∷ r → gap_end_lem s at ≡ gap_end_lem s (at + 1)
 unfolding gap_end_lem
-space_gap i s at r e = omega (arith, ap (gap i false) e, ap (gap i false) (drop_more s at (32 ∷ []) r e))
+space_gap s at r e = omega (arith, ap (gap false) e, ap (gap false) (drop_more s at (32 ∷ []) r e))
 
 -- the next token is the same, from a place on where it starts as well
-module _ (s : List ℕ) (rest : Rest) (at at' top k count used : ℕ) where
-  same_value : (code start end : ℕ) (bs : List ℕ) (v : Lexed) → value_then rest (lexer at false top k count used) code start end bs v ≡ value_then rest (lexer at' false top k count used) code start end bs v
+module _ (s : List ℕ) (rest : Rest) (at at' top count used : ℕ) where
+  same_value : (code start end : ℕ) (bs : List ℕ) (v : Lexed) → value_then rest (lexer at false top count used) code start end bs v ≡ value_then rest (lexer at' false top count used) code start end bs v
   same_value code start end bs (Value v) = refl
   same_value code start end bs Refused = refl
 
-  same_found : (start : ℕ) (t : RawToken) → found_then s rest (lexer at false top k count used) start t ≡ found_then s rest (lexer at' false top k count used) start t
+  same_found : (start : ℕ) (t : RawToken) → found_then s rest (lexer at false top count used) start t ≡ found_then s rest (lexer at' false top count used) start t
   same_found start (Found code end) = same_value code start end (text_of code (part s start end)) (value_of code (part s start end) used)
   same_found start NoMatch = refl
 
-  same_start : gap_end_lem (inside k) s at ≡ gap_end_lem (inside k) s at' → token_then s rest (lexer at false top k count used) ≡ token_then s rest (lexer at' false top k count used)
+  same_start : gap_end_lem s at ≡ gap_end_lem s at' → token_then s rest (lexer at false top count used) ≡ token_then s rest (lexer at' false top count used)
   unfolding token_then closed
-  same_start e = rw e (rw (same_found (gap_end_lem (inside k) s at') (token_at_lem s (gap_end_lem (inside k) s at'))) refl)
+  same_start e = rw e (rw (same_found (gap_end_lem s at') (token_at_lem s (gap_end_lem s at'))) refl)
 
-pub space_step : (s : List ℕ) (at top k count used : ℕ) (r : List ℕ) → at ≤ length s → drop at s ≡ 32 ∷ r → from s (lexer at false (step * top) k count used) ≡ from s (lexer (at + 1) false (step * top) k count used)
-space_step s at top k count used r h e =
-    plain_from s at top k count used h ∙ same_start s (from s) at (at + 1) (step * top) k count used (space_gap (inside k) s at r e)
-    ∙ sym (plain_from s (at + 1) top k count used (omega (arith, length_at s at (32 ∷ r) e)))
+pub space_step : (s : List ℕ) (at top count used : ℕ) (r : List ℕ) → at ≤ length s → drop at s ≡ 32 ∷ r → from s (lexer at false (step * top) count used) ≡ from s (lexer (at + 1) false (step * top) count used)
+space_step s at top count used r h e =
+    plain_from s at top count used h ∙ same_start s (from s) at (at + 1) (step * top) count used (space_gap s at r e)
+    ∙ sym (plain_from s (at + 1) top count used (omega (arith, length_at s at (32 ∷ r) e)))
 
 -- ---- a token
 
-no_gap : (i : Bool) (s : List ℕ) (at b : ℕ) (l : List ℕ) → Inked b → drop at s ≡ b ∷ l → at ≡ gap_end_lem i s at
+no_gap : (s : List ℕ) (at b : ℕ) (l : List ℕ) → Inked b → drop at s ≡ b ∷ l → at ≡ gap_end_lem s at
 unfolding gap_end_lem
-no_gap i s at b l n e =
-    let h = n.low in
-    let g : gap i false (b ∷ l) ≡ 0 = rw (no_blank i b (omega arith), ne_eqb b 35 n.no_hash) in
-    omega (arith, ap (gap i false) e ∙ g)
+no_gap s at b l i e =
+    let h = i.low in
+    let g : gap false (b ∷ l) ≡ 0 = rw (ne_eqb b 32 (omega arith), ne_eqb b 9 (omega arith), ne_eqb b 13 (omega arith), ne_eqb b 35 i.no_hash) in
+    omega (arith, ap (gap false) e ∙ g)
 
-stays_clear : (code : ℕ) → (code ≡ Code.Newline → ⊥) → flag_after code false ≡ false
-stays_clear code n = rw (ne_eqb code Code.Newline n) (go (is_opener code))
-  where
-    go : (t : Bool) → cond t false false ≡ false
-    go true = refl
-    go false = refl
-
-pub token_step : (s : List ℕ) (top k code : ℕ) (w r : List ℕ) (v : Literal) (at count used : ℕ) (ts : List Token) (bs : List ℕ)
+pub token_step : (s : List ℕ) (top code : ℕ) (w r : List ℕ) (v : Literal) (at count used : ℕ) (ts : List Token) (bs : List ℕ)
     → Lexeme code w → (code ≡ Code.Newline → ⊥) → value_of code w used ≡ Value v → parted w r ≡ true
     → at ≤ length s → drop at s ≡ w ++ r
-    → from s (lexer (at + length w) false (step * top) (brackets_after code k) (count + 1) (used + length (text_of code w))) ≡ scanned ts bs
-    → from s (lexer at false (step * top) k count used) ≡ scanned (token code at (at + length w) v ∷ ts) (text_of code w ++ bs)
-token_step s top k code [] r v at count used ts bs a n val f h e next = absurd (omega (arith, (inked code [] a n).low))
-token_step s top k code (b ∷ w) r v at count used ts bs a n val f h e next =
-    plain_from s at top k count used h
-    ∙ token_scan s (from s) (lexer at false (step * top) k count used) at code (b ∷ w) r v (no_gap (inside k) s at b (w ++ r) (inked code (b ∷ w) a n) e) e (stays code (b ∷ w) r a f) (omega arith) val
-    ∙ rw (stays_clear code n, next)
+    → from s (lexer (at + length w) false (step * top) (count + 1) (used + length (text_of code w))) ≡ scanned ts bs
+    → from s (lexer at false (step * top) count used) ≡ scanned (token code at (at + length w) v ∷ ts) (text_of code w ++ bs)
+token_step s top code [] r v at count used ts bs a n val f h e k = absurd (omega (arith, (inked code [] a n).low))
+token_step s top code (b ∷ w) r v at count used ts bs a n val f h e k =
+    plain_from s at top count used h
+    ∙ token_scan s (from s) (lexer at false (step * top) count used) at code (b ∷ w) r v (no_gap s at b (w ++ r) (inked code (b ∷ w) a n) e) e (stays code (b ∷ w) r a f) (omega arith) val
+    ∙ rw (ne_eqb code Code.Newline n, k)
 
 -- ---- the line feed
 
@@ -113,15 +104,15 @@ newline_text : text_of Code.Newline (10 ∷ []) ≡ []
 unfolding text_of
 newline_text = refl
 
-feed_ends : (s : List ℕ) (at : ℕ) (r : List ℕ) → drop at s ≡ 10 ∷ r → at ≡ gap_end_lem (inside 0) s at
+feed_ends : (s : List ℕ) (at : ℕ) (r : List ℕ) → drop at s ≡ 10 ∷ r → at ≡ gap_end_lem s at
 unfolding gap_end_lem
-feed_ends s at r e = omega (arith, ap (gap false false) e)
+feed_ends s at r e = omega (arith, ap (gap false) e)
 
 pub feed_step : (s r : List ℕ) (top at count used : ℕ) (ts : List Token) (bs : List ℕ) → at ≤ length s → drop at s ≡ 10 ∷ r
-    → from s (lexer (at + 1) true (step * top) 0 (count + 1) used) ≡ scanned ts bs
-    → from s (lexer at false (step * top) 0 count used) ≡ scanned (mark Code.Newline at (at + 1) ∷ ts) bs
-feed_step s r top at count used ts bs h e next =
+    → from s (lexer (at + 1) true (step * top) (count + 1) used) ≡ scanned ts bs
+    → from s (lexer at false (step * top) count used) ≡ scanned (mark Code.Newline at (at + 1) ∷ ts) bs
+feed_step s r top at count used ts bs h e k =
     let u : used + 0 ≡ used = omega arith in
-    plain_from s at top 0 count used h
-    ∙ token_scan s (from s) (lexer at false (step * top) 0 count used) at Code.Newline (10 ∷ []) r L.None (feed_ends s at r e) e (newline_at (10 ∷ r) 0 refl) (omega arith) (newline_value used)
-    ∙ rw (newline_text, u, next)
+    plain_from s at top count used h
+    ∙ token_scan s (from s) (lexer at false (step * top) count used) at Code.Newline (10 ∷ []) r L.None (feed_ends s at r e) e (newline_at (10 ∷ r) 0 refl) (omega arith) (newline_value used)
+    ∙ rw (newline_text, u, k)

@@ -1,6 +1,6 @@
 -- Classes of bytes, how far a class runs at the front of a list, and a part of the source.
 -- Assumes nothing.
-use Rattle.std.specs.Prelude.{ℕ, suc, ◌+◌, ◌-◌, ◌≤◌, ◌≡◌, Bool, cond, not, ◌&&◌, ◌||◌, List, [], ◌∷◌, eqb, leb, length, take, drop}
+use Rattle.std.specs.Prelude.{ℕ, suc, ◌-◌, ◌≤◌, ◌≡◌, Bool, cond, ◌&&◌, ◌||◌, List, [], ◌∷◌, leb, length, take, drop}
 
 -- from lo to hi, both included
 abbrev pub between : ℕ → ℕ → ℕ → Bool
@@ -18,14 +18,6 @@ letter b = between 97 122 b || between 65 90 b
 abbrev pub run : (ℕ → Bool) → List ℕ → ℕ
 run p [] = 0
 run p (b ∷ l) = cond (p b) (suc (run p l)) 0
-
--- any byte but a line feed
-abbrev pub in_line : ℕ → Bool
-in_line b = not (eqb b 10)
-
--- the place of the first line feed from `at` on, or the end
-abbrev pub line_end_lem : List ℕ → ℕ → ℕ
-line_end_lem s at = at + run in_line (drop at s)
 
 -- r is the length of what p matches at the place `at` of s
 pub record Len (p : List ℕ → ℕ) (s : List ℕ) (at r : ℕ) : Type 0 where

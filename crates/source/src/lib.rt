@@ -1,6 +1,6 @@
-// Bytes of the source: a byte past the end, the digits and their runs, the end of a line. Every layer of the scanner reads by these.
-ghost use Rattle.std.specs.Prelude.{◌≡◌, ◌≤◌, length, get_or};
-ghost use Rattle.source.specs.Bytes.{digit, run, line_end_lem, Len};
+// Bytes of the source: a byte past the end, the digits and their runs. Every layer of the scanner reads by these.
+ghost use Rattle.std.specs.Prelude.{◌≡◌, get_or};
+ghost use Rattle.source.specs.Bytes.{digit, run, Len};
 
 pub fn is_digit(b: u8) -> bool
     ensures { result ≡ digit b }
@@ -28,19 +28,4 @@ pub fn digits(s: &[u8], at: usize) -> usize
         }
     }
     i - at
-}
-
-// The place of the first line feed from `at` on, or the end.
-pub fn line_end(s: &[u8], at: usize) -> usize
-    requires { at ≤ length s.now }
-    ensures { (result ≡ line_end_lem s.now at) × (at ≤ result) × (result ≤ length s.now) }
-{
-    let mut i = at;
-    while i < s.len() {
-        if s[i] == b'\n' {
-            return i;
-        }
-        i += 1;
-    }
-    i
 }

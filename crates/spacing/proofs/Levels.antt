@@ -1,6 +1,6 @@
 -- What a line's spaces say, case by case, and what an answer's marks cost.
 -- Assumes nothing.
-use mathlib.Core.Path.{◌≡◌, sym, ap, ◌∙◌, subst}
+use mathlib.Core.Path.{◌≡◌, sym, ap, ◌∙◌}
 use mathlib.Core.Bool.{Bool, true, false, cond, false≢true}
 use mathlib.Core.List.{List, [], ◌∷◌}
 use Prim.Native.Nat.{ℕ, ◌+◌, ◌-◌, ◌/◌, ◌%◌, ◌<◌, ◌≤◌}
@@ -38,37 +38,6 @@ module _ (at end top : ℕ) where
     unfolding level_of
     level_between h e = rw (ne_eqb (end - at) top other, le-ltb top (end - at) h, ne_eqb ((end - at) % step) 0 e)
 
--- so by cases: as many spaces as the top, a step more, others above it, a level below it, others below it
-pub level_cases : (P : Indentation → Type 0) (at end top : ℕ) → (end - at ≡ top → P (Level end Dedent 0 top)) → (end - at ≡ top + step → P (Level end Indent 1 (end - at))) → P (No 7 at)
-    → (end - at ≤ top → (end - at) % step ≡ 0 → P (Level end Dedent ((top - (end - at)) / step) (end - at))) → P (No 8 at) → P (level_of at end top)
-level_cases P at end top same deeper far back between = by_same (ℕ_discrete (end - at) top)
-  where
-    by_level : (end - at ≡ top → ⊥) → end - at ≤ top → Dec ((end - at) % step ≡ 0) → P (level_of at end top)
-    by_level o m (yes q) = subst P (level_back at end top o m q) (back m q)
-    by_level o m (no q) = subst P (level_between at end top o m q) between
-
-    by_step : (end - at ≡ top → ⊥) → top < end - at → Dec (end - at ≡ top + step) → P (level_of at end top)
-    by_step o m (yes q) = subst P (level_deeper at end top o m q) (deeper q)
-    by_step o m (no q) = subst P (level_far at end top o m q) far
-
-    by_more : (end - at ≡ top → ⊥) → Dec (top < end - at) → P (level_of at end top)
-    by_more o (yes m) = by_step o m (ℕ_discrete (end - at) (top + step))
-    by_more o (no m) = by_level o (omega arith) (ℕ_discrete ((end - at) % step) 0)
-
-    by_same : Dec (end - at ≡ top) → P (level_of at end top)
-    by_same (yes q) = subst P (level_same at end top q) (same q)
-    by_same (no q) = by_more q (dec_lt top (end - at))
-
--- and with the byte behind the spaces: a tab, one of a line with no token of its own, or another
-pub indentation_cases : (P : Indentation → Type 0) (s : List ℕ) (at top : ℕ) → P (No 6 (spaces_end_lem s at)) → P (Blank (spaces_end_lem s at)) → P (level_of at (spaces_end_lem s at) top) → P (indentation_at s at top)
-unfolding indentation_at
-indentation_cases P s at top tab blank level = go (eqb (get_or s (spaces_end_lem s at) 0) 9) (is_blank_line (get_or s (spaces_end_lem s at) 0))
-  where
-    go : (t u : Bool) → P (cond t (No 6 (spaces_end_lem s at)) (cond u (Blank (spaces_end_lem s at)) (level_of at (spaces_end_lem s at) top)))
-    go true u = tab
-    go false true = blank
-    go false false = level
-
 -- What is known of an answer: it ends at or behind `at` and within n bytes; its marks and the levels then open cost no more than the levels open before
 -- and the spaces passed
 abbrev pub Known : ℕ → ℕ → ℕ → Indentation → Type 0
@@ -78,16 +47,42 @@ Known n at top (Level end code marks top') =
 Known n at top (No number place) = Unit {0}
 
 level_known : (n at end top : ℕ) → at ≤ end → end ≤ n → top % step ≡ 0 → Known n at top (level_of at end top)
-level_known n at end top h k e =
-    level_cases (Known n at top) at end top (λ q. (h, k, e, omega arith)) (λ q. (h, k, omega arith, omega arith)) tt (λ m q. (h, k, q, omega arith)) tt
+unfolding level_of
+level_known n at end top h k e = by_same (ℕ_discrete (end - at) top)
+  where
+    by_level : (end - at ≡ top → ⊥) → end - at ≤ top → Dec ((end - at) % step ≡ 0) → Known n at top (level_of at end top)
+    by_level o m (yes q) = rw (← level_back at end top o m q) (h, k, q, omega arith)
+    by_level o m (no q) = rw (← level_between at end top o m q) tt
+
+    by_step : (end - at ≡ top → ⊥) → top < end - at → Dec (end - at ≡ top + step) → Known n at top (level_of at end top)
+    by_step o m (yes q) = rw (← level_deeper at end top o m q) (h, k, omega arith, omega arith)
+    by_step o m (no q) = rw (← level_far at end top o m q) tt
+
+    by_more : (end - at ≡ top → ⊥) → Dec (top < end - at) → Known n at top (level_of at end top)
+    by_more o (yes m) = by_step o m (ℕ_discrete (end - at) (top + step))
+    by_more o (no m) = by_level o (omega arith) (ℕ_discrete ((end - at) % step) 0)
+
+    by_same : Dec (end - at ≡ top) → Known n at top (level_of at end top)
+    by_same (yes q) = rw (← level_same at end top q) (h, k, e, omega arith)
+    by_same (no q) = by_more q (dec_lt top (end - at))
 
 pub spaces_within : (s : List ℕ) (at : ℕ) → at ≤ length s → (at ≤ spaces_end_lem s at) × (spaces_end_lem s at ≤ length s)
 spaces_within s at h = (omega arith, omega (arith, run_le is_space (drop at s), length-drop at s))
 
 pub indentation_known : (s : List ℕ) (at top : ℕ) → at ≤ length s → top % step ≡ 0 → Known (length s) at top (indentation_at s at top)
-indentation_known s at top h e =
-    let w = spaces_within s at h in
-    indentation_cases (Known (length s) at top) s at top tt w (level_known (length s) at (spaces_end_lem s at) top w.0 w.1 e)
+unfolding indentation_at
+indentation_known s at top h e = go (eqb b 9) (is_blank_line b)
+  where
+    b : ℕ
+    b = get_or s (spaces_end_lem s at) 0
+
+    w : (at ≤ spaces_end_lem s at) × (spaces_end_lem s at ≤ length s)
+    w = spaces_within s at h
+
+    go : (t u : Bool) → Known (length s) at top (cond t (No 6 (spaces_end_lem s at)) (cond u (Blank (spaces_end_lem s at)) (level_of at (spaces_end_lem s at) top)))
+    go true u = tt
+    go false true = w
+    go false false = level_known (length s) at (spaces_end_lem s at) top w.0 w.1 e
 
 tab_not : (b : ℕ) → is_blank_line b ≡ true → eqb b 9 ≡ false
 tab_not b e = go (ℕ_discrete b 9)

@@ -1,3 +1,2 @@
 pub mod Gaps
 pub mod Levels
-pub mod Counted

@@ -2,26 +2,27 @@
 ghost use Rattle.std.specs.Prelude.{◌≡◌, ◌≤◌, length};
 ghost use Rattle.spacing.specs.Gap.{gap_end_lem};
 
-// The place behind the blanks and comments at `at`; inside brackets a line feed is a blank too. Most gaps end at a byte greater than `#`, which is no blank, and
-// most blanks are spaces.
-pub fn gap_end(s: &[u8], at: usize, inside: bool) -> usize
+// The place behind the blanks and comments at `at`.
+pub fn gap_end(s: &[u8], at: usize) -> usize
     requires { at ≤ length s.now }
-    ensures { (result ≡ gap_end_lem inside s.now at) × (result ≤ length s.now) × (at ≤ result) }
+    ensures { (result ≡ gap_end_lem s.now at) × (result ≤ length s.now) × (at ≤ result) }
 {
+    let mut comment = false;
     let mut i = at;
     while i < s.len() {
         let b = s[i];
-        if b'#' < b {
-            return i;
-        }
-        if b == b' ' {
+        if comment {
+            if b == b'\n' {
+                return i;
+            }
             i += 1;
         } else {
-            if (b == b'\t') | (b == b'\r') | (inside & (b == b'\n')) {
+            if (b == b' ') | (b == b'\t') | (b == b'\r') {
                 i += 1;
             } else {
                 if b == b'#' {
-                    i = source::line_end(s, i + 1);
+                    comment = true;
+                    i += 1;
                 } else {
                     return i;
                 }

@@ -7,7 +7,7 @@ use Prim.Native.Nat.{ℕ, suc}
 use Rattle.token.specs.Code.{If, Elif, Else, While, For, In, Def, Return, Lambda, Equal, LParen, RParen, LBracket, RBracket, LBrace, RBrace, Colon, Comma, Dot, Newline, Eof}
 use Rattle.token.specs.Code as token
 use Rattle.pyhyeon.specs.Action as act
-use Rattle.rendered.proofs.Lexeme.{apart}
+use Rattle.rendered.proofs.Lexeme.{apart, is_fixed}
 use Rattle.rendered.proofs.Beside.{dot_apart}
 use Rattle.rendered.specs.Spelled.{spelled_fixed}
 use Rattle.unparse.specs.Trees.{Item, Sort, Sign, Op, Comparison, Alone, Bracket, Void, sign_code, op_code, comparison_code, alone_code, literal_code}
@@ -18,7 +18,7 @@ use Rattle.unparse.proofs.Write as write
 use Rattle.standard.specs.Text.{word_text, literal_text, colon, comma, parting, bracket_text, void_text, opening, text, standard_text}
 use Rattle.standard.proofs.Signs.{sign, plain, signs}
 use Rattle.standard.proofs.Scanning.{Spelt, Reading, Scanned, scanning}
-use Rattle.standard.proofs.Spells.{SpeltName, is_key, says_starts, fixed_spelt, tee_spelt}
+use Rattle.standard.proofs.Spells.{SpeltName, spelt_starts, fixed_spelt, tee_spelt}
 use Rattle.standard.proofs.Phrases.{Follow, Ends, Lines, Maybe, space_ends, space_apart, none_ends, free_ends, apart_join, free_then, ends_then, token_ends, lines_maybe, no_lines, lines_then, maybe_then, line_is, block_is, whole_is}
 use Rattle.standard.proofs.Keys.{Phrase, key_ends, mark_free, closes, after_ends, colon_ends, comma_free, comma_apart, within_free, ◌then◌by◌, leaf, fixed_starts, keyed, bracketed, between_is}
 use Rattle.standard.proofs.Ladder.{fitted, tuple_is}
@@ -59,12 +59,12 @@ Claim Sort.several t d w f = Phrase w f
 Claim Sort.other t d w f = Maybe d w f
 Claim Sort.script t d w f = Maybe d w f
 
-sign-code : (g : Sign) → is_key (sign_code g) ≡ true
+sign-code : (g : Sign) → is_fixed (sign_code g) ≡ true
 sign-code Sign.negation = refl
 sign-code Sign.negative = refl
 sign-code Sign.positive = refl
 
-op-code : (o : Op) → is_key (op_code o) ≡ true
+op-code : (o : Op) → is_fixed (op_code o) ≡ true
 op-code Op.or = refl
 op-code Op.and = refl
 op-code Op.plus = refl
@@ -74,7 +74,7 @@ op-code Op.slashes = refl
 op-code Op.slash = refl
 op-code Op.percent = refl
 
-comparison-code : (o : Comparison) → is_key (comparison_code o) ≡ true
+comparison-code : (o : Comparison) → is_fixed (comparison_code o) ≡ true
 comparison-code Comparison.less = refl
 comparison-code Comparison.less_equal = refl
 comparison-code Comparison.greater = refl
@@ -82,7 +82,7 @@ comparison-code Comparison.greater_equal = refl
 comparison-code Comparison.equal = refl
 comparison-code Comparison.not_equal = refl
 
-alone-code : (w : Alone) → is_key (alone_code w) ≡ true
+alone-code : (w : Alone) → is_fixed (alone_code w) ≡ true
 alone-code Alone.break = refl
 alone-code Alone.continue = refl
 alone-code Alone.pass = refl
@@ -104,13 +104,13 @@ unfolding text write fine.Fine
 dotted p (tree.name w l) h d = p then free_then (mark_free Dot refl refl) (token_ends h.0) by record { holds = λ r. ap apart (append_assoc (spelled_fixed Dot) (word_text w l) r) ∙ dot_apart (word_text w l) r h.1 }
 
 void_is : (v : Void) → Phrase (void_text v) (signs (voided v))
-void_is Void.no_pairs = bracketed LBrace RBrace refl none_ends
-void_is Void.no_members = bracketed LParen RParen refl (key_ends RParen refl)
+void_is Void.no_pairs = bracketed LBrace RBrace refl refl refl refl refl none_ends
+void_is Void.no_members = bracketed LParen RParen refl refl refl refl refl (key_ends RParen refl)
 
 bracket_is : (b : Bracket) (e : Steps) {w : List ℕ} → Ends w (signs e) → Phrase (bracket_text b w) (signs (write.bracketed b e))
-bracket_is Bracket.squares e h = bracketed LBracket RBracket refl h
+bracket_is Bracket.squares e h = bracketed LBracket RBracket refl refl refl refl refl h
 bracket_is Bracket.treeset e {w} h =
-    leaf tee_spelt then free_ends (within_free LBrace RBrace refl h) by apart_join (w ++ spelled_fixed RBrace) (closes LBrace refl)
+    leaf tee_spelt then free_ends (within_free LBrace RBrace refl refl refl refl refl h) by apart_join (w ++ spelled_fixed RBrace) (closes LBrace refl)
 
 -- ---- lists, by what they have as members
 
@@ -161,12 +161,12 @@ claims d l (tree.unary g x) h = fitted G _ (keyed (sign_code g) (sign-code g) (c
 claims d l (tree.binary o x y) h = fitted (level_of o) _ (between_is (op_code o) (op-code o) (claims d (level_of o) x h.0) (claims d (below o) y h.1)) l
 claims d l (tree.compare c) h = fitted C _ (claims d X c h) l
 claims d l (tree.attribute x n) h = fitted F _ (dotted (claims d F x h.0) n h.1 d) l
-claims d l (tree.apply x y) h = fitted F _ (claims d F x h.0 then free_ends (within_free LParen RParen refl (claims d X y h.1)) by apart_join _ (closes LParen refl)) l
-claims d l (tree.index x y) h = fitted F _ (claims d F x h.0 then free_ends (within_free LBracket RBracket refl (claims d X y h.1).ends) by apart_join _ (closes LBracket refl)) l
+claims d l (tree.apply x y) h = fitted F _ (claims d F x h.0 then free_ends (within_free LParen RParen refl refl refl refl refl (claims d X y h.1)) by apart_join _ (closes LParen refl)) l
+claims d l (tree.index x y) h = fitted F _ (claims d F x h.0 then free_ends (within_free LBracket RBracket refl refl refl refl refl (claims d X y h.1).ends) by apart_join _ (closes LBracket refl)) l
 claims d l (tree.bracket b x) h = fitted F _ (bracket_is b (write X x) (claims d X x h)) l
 claims d l (tree.void v) h = fitted F _ (void_is v) l
-claims d l (tree.dict x) h = fitted F _ (bracketed LBrace RBrace refl (claims d X x h).ends) l
-claims d l (tree.set x) h = fitted F _ (bracketed LBrace RBrace refl (claims d X x h).ends) l
+claims d l (tree.dict x) h = fitted F _ (bracketed LBrace RBrace refl refl refl refl refl (claims d X x h).ends) l
+claims d l (tree.set x) h = fitted F _ (bracketed LBrace RBrace refl refl refl refl refl (claims d X x h).ends) l
 claims d l (tree.single x) h = tuple_is l _ (claims d X x h then key_ends Comma refl by closes Comma refl)
 claims d l (tree.tuple x) h = tuple_is l _ (claims d X x h)
 claims d l (tree.lambda tree.nil y) h = fitted E _ (lambda_is (claims d X y h.1)) l
@@ -183,7 +183,7 @@ claims d l (tree.full {i} x) h = full_is i x d (write X x) _ (claims d X x h)
 claims d l (tree.expression x) h = line_is (claims d Lt x h).starts (claims d Lt x h).ends
 claims d l (tree.assign x y) h = let p = between_is Equal refl (claims d Lt x h.0) (claims d Lt y h.1) in line_is p.starts p.ends
 claims d l (tree.return x) h = let p = keyed Return refl (claims d Lt x h).ends in line_is p.starts p.ends
-claims d l (tree.alone w) h = line_is (says_starts (fixed_spelt (alone_code w) (alone-code w)).token) (key_ends (alone_code w) (alone-code w))
+claims d l (tree.alone w) h = line_is (spelt_starts (fixed_spelt (alone_code w) (alone-code w))) (key_ends (alone_code w) (alone-code w))
 claims d l (tree.branch x b y z) h =
     lines_then (opens (keyed If refl (claims d X x h.0).ends) ((claims (suc d) X b h.2).lines h.1)) (maybe_then (claims d X y h.3) (claims d X z h.4))
 claims d l (tree.while x b) h = opens (keyed While refl (claims d X x h.0).ends) ((claims (suc d) X b h.2).lines h.1)
@@ -192,7 +192,7 @@ claims d l (tree.for n x b) h =
 claims d l (tree.define x) h = claims d X x h
 claims d l (tree.class n x) h = opens (keyed token.Class refl (claims d X n h.0).ends) (claims (suc d) X x h.1)
 claims d l (tree.def n x b) h =
-    opens (keyed Def refl (ends_then (claims d X n h.0).ends (apart_join _ (closes LParen refl)) (free_ends (within_free LParen RParen refl (claims d X x h.1))))) ((claims (suc d) X b h.3).lines h.2)
+    opens (keyed Def refl (ends_then (claims d X n h.0).ends (apart_join _ (closes LParen refl)) (free_ends (within_free LParen RParen refl refl refl refl refl (claims d X x h.1))))) ((claims (suc d) X b h.3).lines h.2)
 claims d l (tree.elif x b) h = opens (keyed Elif refl (claims d X x h.0).ends) ((claims (suc d) X b h.2).lines h.1)
 claims d l tree.without h = no_lines
 claims d l (tree.otherwise b) h = lines_maybe (opens (leaf (fixed_spelt Else refl)) ((claims (suc d) X b h.1).lines h.0))
@@ -201,4 +201,4 @@ claims d l (tree.program x) h = (claims d X x h).maybe
 -- so the standard text is scanned to tokens with the signs that the tree is written as
 pub text_scanned : (t : tree.Tree Sort.script) → Fine t → Scanned (standard_text t) (signs (write X t) (plain Eof ∷ []))
 unfolding standard_text
-text_scanned t h = scanning (subst (λ (l : List ℕ). Reading true 0 0 l (signs (write X t) (plain Eof ∷ []))) (append-nil (text 0 X t)) (whole_is (claims 0 X t h)))
+text_scanned t h = scanning (subst (λ (l : List ℕ). Reading true 0 l (signs (write X t) (plain Eof ∷ []))) (append-nil (text 0 X t)) (whole_is (claims 0 X t h)))

@@ -1,40 +1,36 @@
 -- Fixed texts within a line: keys, marks and brackets, operators, commas and colons.
 -- Assumes nothing.
 use mathlib.Core.Path.{◌≡◌, refl}
-use mathlib.Core.Bool.{Bool, true, false, not, ◌&&◌}
+use mathlib.Core.Bool.{true}
 use mathlib.Core.List.{List, [], ◌∷◌, ◌++◌}
-use Prim.Native.Nat.{ℕ, ◌+◌}
-use borrow.Author.Tests.{not-true}
-use Rattle.source.proofs.Bools.{and_left, and_right}
+use Prim.Native.Nat.{ℕ}
 use Rattle.token.specs.Code.{Colon, Comma}
-use Rattle.spacing.specs.Brackets.{is_opener, is_closer}
-use Rattle.spacing.proofs.Counted.{one_more, one_less}
 use Rattle.rendered.proofs.Lexeme.{is_fixed}
 use Rattle.rendered.specs.Spelled.{spelled_fixed}
 use Rattle.rendered.proofs.LineSteps.{Starts}
 use Rattle.rendered.proofs.Beside.{is_mark, ends_any, mark_parted, mark_apart}
 use Rattle.standard.specs.Text.{operator, after, colon, comma, within}
 use Rattle.standard.proofs.Signs.{Sign, plain}
-use Rattle.standard.proofs.Scanning.{Spelt, Reading, r_token}
-use Rattle.standard.proofs.Spells.{is_key, key_fixed, says_starts, fixed_says, fixed_spelt}
-use Rattle.standard.proofs.Phrases.{Follow, Free, Ends, Apart, starts_more, token_ends, token_free, space_free, space_ends, space_apart, free_ends, apart_join, regroup, free_free, free_then, ends_free, ends_then}
+use Rattle.standard.proofs.Scanning.{Spelt}
+use Rattle.standard.proofs.Spells.{spelt_starts, fixed_spelt}
+use Rattle.standard.proofs.Phrases.{Follow, Free, Ends, Apart, starts_more, token_ends, token_free, space_free, space_ends, space_apart, free_ends, apart_join, free_free, free_then, ends_free, ends_then}
 
 -- ---- fixed texts
 
-pub key_ends : (c : ℕ) → is_key c ≡ true → Ends (spelled_fixed c) (λ ss. plain c ∷ ss)
+pub key_ends : (c : ℕ) → is_fixed c ≡ true → Ends (spelled_fixed c) (λ ss. plain c ∷ ss)
 key_ends c t = token_ends (fixed_spelt c t)
 
-pub mark_free : (c : ℕ) → is_key c ≡ true → is_mark c ≡ true → Free (spelled_fixed c) (λ ss. plain c ∷ ss)
+pub mark_free : (c : ℕ) → is_fixed c ≡ true → is_mark c ≡ true → Free (spelled_fixed c) (λ ss. plain c ∷ ss)
 mark_free c t m = token_free (fixed_spelt c t) (mark_parted c m)
 
 pub closes : (c : ℕ) → ends_any c ≡ true → Apart (spelled_fixed c)
 closes c t = record { holds = mark_apart c t }
 
 -- with the spaces of an operator; before what follows a space
-pub operator_free : (c : ℕ) → is_key c ≡ true → Free (operator c) (λ ss. plain c ∷ ss)
+pub operator_free : (c : ℕ) → is_fixed c ≡ true → Free (operator c) (λ ss. plain c ∷ ss)
 operator_free c t = free_free {v = 32 ∷ []} space_free (ends_free (key_ends c t) (space_apart []) space_free)
 
-pub after_ends : (c : ℕ) → is_key c ≡ true → {w : List ℕ} {f : Follow} → Ends w f → Ends (after c w) (λ ss. plain c ∷ f ss)
+pub after_ends : (c : ℕ) → is_fixed c ≡ true → {w : List ℕ} {f : Follow} → Ends w f → Ends (after c w) (λ ss. plain c ∷ f ss)
 after_ends c t {w} e = ends_then (key_ends c t) (space_apart w) (space_ends e)
 
 pub colon_ends : {w : List ℕ} {f : Follow} → Ends w f → Ends (colon w) (λ ss. plain Colon ∷ f ss)
@@ -46,27 +42,9 @@ comma_free = free_free (mark_free Comma refl refl) space_free
 pub comma_apart : (w : List ℕ) → Apart (comma ++ w)
 comma_apart w = apart_join w (apart_join (32 ∷ []) (closes Comma refl))
 
--- ---- brackets
-
--- c is an opener and e its closer, or another's: what is asked of a pair of brackets, as one test
-abbrev pub is_pair : ℕ → ℕ → Bool
-is_pair c e = (is_fixed c && is_mark c) && ((is_fixed e && is_mark e) && (ends_any e && (is_closer e && not (is_opener e))))
-
--- what stands within them has one bracket more open before it, and none more behind it
-pub within_free : (c e : ℕ) → is_pair c e ≡ true → {w : List ℕ} {f : Follow} → Ends w f → Free (within c w e) (λ ss. plain c ∷ f (plain e ∷ ss))
-within_free c e p {w} {f} h = record {
-  reads = λ top k r ss d.
-      let first = and_left (is_fixed c && is_mark c) _ p in
-      let shut = and_right (is_fixed c && is_mark c) _ p in
-      let sort = and_left (is_fixed e && is_mark e) _ shut in
-      let rest = and_right (is_fixed e && is_mark e) _ shut in
-      let kind = and_right (ends_any e) _ rest in
-      let fewer = one_less e k (and_left (is_closer e) _ kind) (not-true (is_opener e) (and_right (is_closer e) _ kind)) in
-      let last : Reading false top (k + 1) (spelled_fixed e ++ r) (plain e ∷ ss) = r_token (fixed_says e (and_left (is_fixed e) _ sort)) (mark_parted e (and_right (is_fixed e) _ sort) r) fewer d in
-      let inner = h.reads top (k + 1) (spelled_fixed e ++ r) (plain e ∷ ss) (mark_apart e (and_left (ends_any e) _ rest) r) last in
-      regroup (spelled_fixed c) (w ++ spelled_fixed e) r
-      (r_token (fixed_says c (and_left (is_fixed c) _ first)) (mark_parted c (and_right (is_fixed c) _ first) ((w ++ spelled_fixed e) ++ r)) (one_more c k) (regroup w (spelled_fixed e) r inner));
-}
+pub within_free : (c e : ℕ) → is_fixed c ≡ true → is_mark c ≡ true → is_fixed e ≡ true → is_mark e ≡ true → ends_any e ≡ true → {w : List ℕ} {f : Follow} → Ends w f →
+    Free (within c w e) (λ ss. plain c ∷ f (plain e ∷ ss))
+within_free c e t m t' m' a h = free_free (mark_free c t m) (ends_free h (closes e a) (mark_free e t' m'))
 
 -- ---- phrases: within a line, and able to begin one
 
@@ -79,18 +57,18 @@ pub ◌then◌by◌ : {v w : List ℕ} {f g : Follow} → Phrase v f → Ends w 
 ◌then◌by◌ {v} {w} p e a = record { starts = starts_more v w p.starts; ends = ends_then p.ends a e }
 
 pub leaf : {w : List ℕ} {g : Sign} → Spelt w g → Phrase w (λ ss. g ∷ ss)
-leaf {w} {g} s = record { starts = says_starts s.token; ends = token_ends s }
+leaf {w} {g} s = record { starts = spelt_starts s; ends = token_ends s }
 
 pub fixed_starts : (c : ℕ) → is_fixed c ≡ true → (w : List ℕ) → Starts (spelled_fixed c ++ w)
-fixed_starts c t w = starts_more (spelled_fixed c) w (says_starts (fixed_says c t))
+fixed_starts c t w = starts_more (spelled_fixed c) w (spelt_starts (fixed_spelt c t))
 
-pub keyed : (c : ℕ) → is_key c ≡ true → {w : List ℕ} {f : Follow} → Ends w f → Phrase (after c w) (λ ss. plain c ∷ f ss)
-keyed c t {w} e = record { starts = fixed_starts c (key_fixed c t) (32 ∷ w); ends = after_ends c t e }
+pub keyed : (c : ℕ) → is_fixed c ≡ true → {w : List ℕ} {f : Follow} → Ends w f → Phrase (after c w) (λ ss. plain c ∷ f ss)
+keyed c t {w} e = record { starts = fixed_starts c t (32 ∷ w); ends = after_ends c t e }
 
-pub bracketed : (c e : ℕ) → is_pair c e ≡ true → {w : List ℕ} {f : Follow} → Ends w f → Phrase (within c w e) (λ ss. plain c ∷ f (plain e ∷ ss))
-bracketed c e p {w} h =
-    record { starts = fixed_starts c (and_left (is_fixed c) _ (and_left (is_fixed c && is_mark c) _ p)) (w ++ spelled_fixed e); ends = free_ends (within_free c e p h) }
+pub bracketed : (c e : ℕ) → is_fixed c ≡ true → is_mark c ≡ true → is_fixed e ≡ true → is_mark e ≡ true → ends_any e ≡ true → {w : List ℕ} {f : Follow} → Ends w f →
+    Phrase (within c w e) (λ ss. plain c ∷ f (plain e ∷ ss))
+bracketed c e t m t' m' a {w} h = record { starts = fixed_starts c t (w ++ spelled_fixed e); ends = free_ends (within_free c e t m t' m' a h) }
 
 -- two operands with an operator between
-pub between_is : (c : ℕ) → is_key c ≡ true → {v w : List ℕ} {f g : Follow} → Phrase v f → Phrase w g → Phrase (v ++ (operator c ++ w)) (λ ss. f (plain c ∷ g ss))
+pub between_is : (c : ℕ) → is_fixed c ≡ true → {v w : List ℕ} {f g : Follow} → Phrase v f → Phrase w g → Phrase (v ++ (operator c ++ w)) (λ ss. f (plain c ∷ g ss))
 between_is c t {v} {w} p q = p then free_then (operator_free c t) q.ends by apart_join w (space_apart (spelled_fixed c ++ 32 ∷ []))

@@ -32,7 +32,7 @@ module _ (own : Level) (e : Steps) {w : List ℕ} (h : Phrase w (signs e)) where
   same d = d
 
   in_paren : Phrase (within LParen w RParen) (signs paren)
-  in_paren = bracketed LParen RParen refl topped.ends
+  in_paren = bracketed LParen RParen refl refl refl refl refl topped.ends
 
   rung_F : Phrase (at_f own w (within LParen w RParen) (λ v. v) (λ v. v)) (signs (at_f own e paren same dress))
   rung_F = met (same_level own F) (paren) in_paren
@@ -82,4 +82,4 @@ tuple_is l e {w} p = go (same_level l Lt)
     go : (y : Dec (l ≡ Lt)) → Phrase (pick y w (fit_text F l (within LParen w RParen)))
         (signs (pick y (e › run act.tuple) (fit F l (key LParen › run act.mark › e › run act.list_done › key RParen › run (act.enclose kind.Tuple)))))
     go (yes h) = p
-    go (no h) = fitted F (key LParen › run act.mark › e › run act.list_done › key RParen › run (act.enclose kind.Tuple)) (bracketed LParen RParen refl p.ends) l
+    go (no h) = fitted F (key LParen › run act.mark › e › run act.list_done › key RParen › run (act.enclose kind.Tuple)) (bracketed LParen RParen refl refl refl refl refl p.ends) l

@@ -4,7 +4,6 @@ use mathlib.Core.Path.{◌≡◌, refl, ap, ap₂, sym, ◌∙◌}
 use mathlib.Core.Bool.{Bool, true, false, cond}
 use mathlib.Core.List.{List, [], ◌∷◌, ◌++◌, map, map-append, append_assoc}
 use Prim.Native.Nat.{ℕ, zero, suc, ◌+◌, ◌-◌, ◌*◌, ◌≤◌, zero-le}
-use native.Mathlib.Nat.{le_trans}
 use native.Mathlib.Omega.{arith}
 use lib.Dec.{ltb}
 use lib.ListN.{length, drop, replicate, length-append, length-replicate}
@@ -14,8 +13,6 @@ use Rattle.token.specs.Code.{Indent, Dedent, Newline, Eof}
 use Rattle.tokens.specs.Token.{Token, token}
 use Rattle.literal.specs.declared.Literal.{Literal}
 use Rattle.spacing.specs.Indentation.{step}
-use Rattle.spacing.specs.Brackets.{is_opener, brackets_after}
-use Rattle.spacing.proofs.Counted.{fewer}
 use Rattle.lexer.specs.Value.{text_of}
 use Rattle.lexer.specs.Scan.{scanned, mark, lexer, token_list}
 use Rattle.lexer.specs.declared.Lexer.{Lexer}
@@ -27,31 +24,26 @@ use Rattle.standard.proofs.Loads.{load}
 use Rattle.standard.proofs.Signs.{Sign, plain}
 use Rattle.standard.proofs.SignIn.{sign_in}
 
--- The bytes w alone are a token with this code and sign, wherever they stand, and with whatever text before and after that of the token.
-pub record Says (code : ℕ) (w : List ℕ) (g : Sign) : Type 0 where
+-- The bytes w alone are a token with this sign, wherever they stand, and with whatever text before and after that of the token.
+pub record Spelt (w : List ℕ) (g : Sign) : Type 0 where
+  pub code : ℕ
   pub literal : ℕ → Literal
   pub text : List ℕ
   pub reads : Reads code w literal text
   pub says : (s before after : List ℕ) (at : ℕ) → part s at (at + length w) ≡ w → at + length w ≤ length s →
       sign_in s (before ++ (text ++ after)) (token code at (at + length w) (literal (length before))) ≡ g
 
--- They are such a token, which opens no bracket.
-pub record Spelt (w : List ℕ) (g : Sign) : Type 0 where
-  pub code : ℕ
-  pub shut : is_opener code ≡ false
-  pub token : Says code w g
-
 -- the marks between a line at the level `top` and one at `level`
 abbrev pub marks : ℕ → ℕ → List Sign
 marks top level = cond (ltb top level) (plain Indent ∷ []) (replicate (top - level) (plain Dedent))
 
--- At the start of a line (true) or within one, where `top` levels are open, and k brackets or fewer: at a line feed none is.
-pub data Reading : Bool → ℕ → ℕ → List ℕ → List Sign → Type 0 where
-  r_space : {top k : ℕ} {r : List ℕ} {ss : List Sign} → Reading false top k r ss → Reading false top k (32 ∷ r) ss
-  r_token : {top k j code : ℕ} {w r : List ℕ} {g : Sign} {ss : List Sign} → Says code w g → parted w r ≡ true → brackets_after code k ≤ j → Reading false top j r ss → Reading false top k (w ++ r) (g ∷ ss)
-  r_feed : {top : ℕ} {r : List ℕ} {ss : List Sign} → Reading true top 0 r ss → Reading false top 0 (10 ∷ r) (plain Newline ∷ ss)
-  r_line : {top level : ℕ} {r : List ℕ} {ss : List Sign} → level ≤ suc top → Starts r → Reading false level 0 r ss → Reading true top 0 (replicate (step * level) 32 ++ r) (marks top level ++ ss)
-  r_end : {top : ℕ} → Reading true top 0 [] (replicate top (plain Dedent) ++ plain Eof ∷ [])
+-- At the start of a line (true) or within one, where `top` levels are open.
+pub data Reading : Bool → ℕ → List ℕ → List Sign → Type 0 where
+  r_space : {top : ℕ} {r : List ℕ} {ss : List Sign} → Reading false top r ss → Reading false top (32 ∷ r) ss
+  r_token : {top : ℕ} {w r : List ℕ} {g : Sign} {ss : List Sign} → Spelt w g → parted w r ≡ true → Reading false top r ss → Reading false top (w ++ r) (g ∷ ss)
+  r_feed : {top : ℕ} {r : List ℕ} {ss : List Sign} → Reading true top r ss → Reading false top (10 ∷ r) (plain Newline ∷ ss)
+  r_line : {top level : ℕ} {r : List ℕ} {ss : List Sign} → level ≤ suc top → Starts r → Reading false level r ss → Reading true top (replicate (step * level) 32 ++ r) (marks top level ++ ss)
+  r_end : {top : ℕ} → Reading true top [] (replicate top (plain Dedent) ++ plain Eof ∷ [])
 
 -- ---- each is what the scanner reads
 
@@ -75,58 +67,54 @@ level_says s text top level at = go (ltb top level)
     go true = refl
     go false = marks_say s text at (at + step * level) (top - level)
 
-pub reads : {flag : Bool} {top k : ℕ} {bs : List ℕ} {ss : List Sign} → Reading flag top k bs ss → (s : List ℕ) (b at count used : ℕ) → b ≤ k → at ≤ length s → drop at s ≡ bs
-    → From s (lexer at flag (step * top) b count used) ss
+pub reads : {flag : Bool} {top : ℕ} {bs : List ℕ} {ss : List Sign} → Reading flag top bs ss → (s : List ℕ) (at count used : ℕ) → at ≤ length s → drop at s ≡ bs → From s (lexer at flag (step * top) count used) ss
 unfolding load
-reads (r_space {top} {r} d) s b at count used m h e =
-    let f = reads d s b (at + 1) count used m (omega (arith, length_at s at (32 ∷ r) e)) (drop_more s at (32 ∷ []) r e) in
-    record { tokens = f.tokens; text = f.text; scans = space_step s at top b count used r h e ∙ f.scans; says = f.says }
-reads (r_token {top} {k} {code} {w} {r} {g} {ss} t p l d) s b at count used m h e =
-    let c = text_of code w in
+reads (r_space {top} {r} d) s at count used h e =
+    let f = reads d s (at + 1) count used (omega (arith, length_at s at (32 ∷ r) e)) (drop_more s at (32 ∷ []) r e) in
+    record { tokens = f.tokens; text = f.text; scans = space_step s at top count used r h e ∙ f.scans; says = f.says }
+reads (r_token {top} {w} {r} {g} {ss} t p d) s at count used h e =
+    let b = text_of t.code w in
     let n = length_at s at (w ++ r) e in
     let end : at + length w ≤ length s = omega (arith, length-append w r) in
-    let f = reads d s (brackets_after code b) (at + length w) (count + 1) (used + length c) (le_trans (fewer code b k m) l) end (drop_more s at w r e) in
+    let f = reads d s (at + length w) (count + 1) (used + length b) end (drop_more s at w r e) in
     record {
-      tokens = token code at (at + length w) (t.literal used) ∷ f.tokens;
-      text = c ++ f.text;
-      scans = token_step s top b code w r (t.literal used) at count used f.tokens f.text t.reads.lexeme t.reads.no_feed (t.reads.valued used) p h e f.scans;
+      tokens = token t.code at (at + length w) (t.literal used) ∷ f.tokens;
+      text = b ++ f.text;
+      scans = token_step s top t.code w r (t.literal used) at count used f.tokens f.text t.reads.lexeme t.reads.no_feed (t.reads.valued used) p h e f.scans;
       says = λ before q.
-          let x = token code at (at + length w) in
-          let a : sign_in s (before ++ (c ++ f.text)) (x (t.literal used)) ≡ g =
+          let x = token t.code at (at + length w) in
+          let a : sign_in s (before ++ (b ++ f.text)) (x (t.literal used)) ≡ g =
           ap₂ (λ (u : ℕ) (m : List ℕ). sign_in s (before ++ (m ++ f.text)) (x (t.literal u))) (sym q) t.reads.adds ∙ t.says s before f.text at (part_at s at w r e) end in
-          let k : map (sign_in s (before ++ (c ++ f.text))) f.tokens ≡ ss =
-          ap (λ (l : List ℕ). map (sign_in s l) f.tokens) (sym (append_assoc before c f.text)) ∙ f.says (before ++ c) (length-append before c ∙ ap (λ (u : ℕ). u + length c) q) in
+          let k : map (sign_in s (before ++ (b ++ f.text))) f.tokens ≡ ss =
+          ap (λ (l : List ℕ). map (sign_in s l) f.tokens) (sym (append_assoc before b f.text)) ∙ f.says (before ++ b) (length-append before b ∙ ap (λ (u : ℕ). u + length b) q) in
           ap₂ ◌∷◌ a k;
     }
-reads (r_feed {top} {r} d) s zero at count used m h e =
-    let f = reads d s 0 (at + 1) (count + 1) used zero-le (omega (arith, length_at s at (10 ∷ r) e)) (drop_more s at (10 ∷ []) r e) in
+reads (r_feed {top} {r} d) s at count used h e =
+    let f = reads d s (at + 1) (count + 1) used (omega (arith, length_at s at (10 ∷ r) e)) (drop_more s at (10 ∷ []) r e) in
     record {
       tokens = mark Newline at (at + 1) ∷ f.tokens;
       text = f.text;
       scans = feed_step s r top at count used f.tokens f.text h e f.scans;
       says = λ before q. ap (λ (l : List Sign). plain Newline ∷ l) (f.says before q);
     }
-reads (r_feed d) s (suc b) at count used m h e = absurd (omega arith)
-reads (r_line {top} {level} {r} {ss} rises i d) s zero at count used m h e =
+reads (r_line {top} {level} {r} {ss} rises i d) s at count used h e =
     let n = step * level in
     let behind : drop (at + n) s ≡ r = rw length-replicate at (drop_more s at (replicate n 32) r e) in
     let within : at + n ≤ length s = omega (arith, length_at s at (replicate n 32 ++ r) e, length-append (replicate n 32) r, length-replicate {A = ℕ} n 32) in
-    let f = reads d s 0 (at + n) (count + mark_count top level) used zero-le within behind in
+    let f = reads d s (at + n) (count + mark_count top level) used within behind in
     record {
       tokens = level_marks top level at ++ f.tokens;
       text = f.text;
       scans = line_step s top level r at count used f.tokens f.text rises i h e f.scans;
       says = λ before q. map-append (sign_in s (before ++ f.text)) (level_marks top level at) f.tokens ∙ ap₂ ◌++◌ (level_says s (before ++ f.text) top level at) (f.says before q);
     }
-reads (r_line rises i d) s (suc b) at count used m h e = absurd (omega arith)
-reads (r_end {top}) s zero at count used m h e =
+reads (r_end {top}) s at count used h e =
     record {
       tokens = replicate top (mark Dedent at at) ++ mark Eof at at ∷ [];
       text = [];
       scans = end_step s top at count used h e;
       says = λ before q. map-append (sign_in s (before ++ [])) (replicate top (mark Dedent at at)) (mark Eof at at ∷ []) ∙ ap (λ (l : List Sign). l ++ plain Eof ∷ []) (marks_say s (before ++ []) at at top);
     }
-reads r_end s (suc b) at count used m h e = absurd (omega arith)
 
 -- a whole text
 pub record Scanned (s : List ℕ) (ss : List Sign) : Type 0 where
@@ -135,5 +123,5 @@ pub record Scanned (s : List ℕ) (ss : List Sign) : Type 0 where
   pub scans : token_list s ≡ scanned tokens text
   pub says : map (sign_in s text) tokens ≡ ss
 
-pub scanning : {s : List ℕ} {ss : List Sign} → Reading true 0 0 s ss → Scanned s ss
-scanning {s} d = let f = reads d s 0 0 0 0 zero-le zero-le refl in record { tokens = f.tokens; text = f.text; scans = list_is s ∙ f.scans; says = f.says [] refl }
+pub scanning : {s : List ℕ} {ss : List Sign} → Reading true 0 s ss → Scanned s ss
+scanning {s} d = let f = reads d s 0 0 0 zero-le refl in record { tokens = f.tokens; text = f.text; scans = list_is s ∙ f.scans; says = f.says [] refl }

@@ -1,19 +1,17 @@
 -- Leaves and fixed texts are read as what they were written for.
 -- Assumes nothing.
 use mathlib.Core.Path.{◌≡◌, refl, ap, sym, ◌∙◌}
-use mathlib.Core.Bool.{Bool, true, not, ◌&&◌}
+use mathlib.Core.Bool.{true}
 use mathlib.Core.List.{List, [], ◌∷◌}
 use Prim.Native.Nat.{ℕ, suc, ◌+◌, ◌-◌}
 use native.Mathlib.Omega.{arith}
-use borrow.Author.Tests.{eq-eqb, ne_eqb, not-true}
+use borrow.Author.Tests.{eq-eqb, ne_eqb}
 use lib.ListN.{length, get_or, drop}
 use lib.Seq.{get_or-drop, get_or-take}
-use Rattle.source.proofs.Bools.{and_left, and_right}
 use Rattle.source.specs.Bytes.{part}
 use Rattle.source.specs.Text.{bytes}
 use Rattle.token.specs.Code as token
 use Rattle.literal.specs.declared.Literal.TheVariants as L
-use Rattle.spacing.specs.Brackets.{is_opener}
 use Rattle.pyhyeon.specs.Symbol.{Tee}
 use Rattle.raw_token.specs.Table.{name}
 use Rattle.raw_token.proofs.First.{starts}
@@ -26,38 +24,29 @@ use Rattle.rendered.proofs.Lexemes.{fixed_reads, fixed_other, tee_reads}
 use Rattle.standard.proofs.Loads.{load}
 use Rattle.standard.specs.Text.{word_text}
 use Rattle.standard.proofs.Signs.{Sign, sign, plain}
-use Rattle.standard.proofs.Scanning.{Says, Spelt}
+use Rattle.standard.proofs.Scanning.{Spelt}
 
 -- a name is read as itself, and begins as names do
 abbrev pub SpeltName : Word → Load → Type 0
 SpeltName w l = Spelt (word_text w l) (sign (word_code w) l) × (starts name (get_or (word_text w l) 0 0) ≡ true)
 
 -- a token's bytes begin with one that no gap begins with
-pub says_starts : {code : ℕ} {w : List ℕ} {g : Sign} → Says code w g → Starts w
-says_starts {code} {w} s = go w (inked code w s.reads.lexeme s.reads.no_feed)
+pub spelt_starts : {w : List ℕ} {g : Sign} → Spelt w g → Starts w
+spelt_starts {w} s = go w (inked s.code w s.reads.lexeme s.reads.no_feed)
   where
     go : (w : List ℕ) → Inked (get_or w 0 0) → Starts w
     go [] i = absurd (omega (arith, i.low))
     go (b ∷ l) i = record { byte = b; rest = l; is = refl; inked = i }
 
-pub fixed_says : (c : ℕ) → is_fixed c ≡ true → Says c (spelled_fixed c) (plain c)
+pub fixed_spelt : (c : ℕ) → is_fixed c ≡ true → Spelt (spelled_fixed c) (plain c)
 unfolding load
-fixed_says c e = record {
+fixed_spelt c e = record {
+  code = c;
   literal = λ used. L.None;
   text = [];
   reads = fixed_reads c e;
   says = λ s before after at p h. rw (ne_eqb c token.Identifier (fixed_other c token.Identifier e refl)) refl;
 }
-
--- a fixed text that opens no bracket
-abbrev pub is_key : ℕ → Bool
-is_key c = is_fixed c && not (is_opener c)
-
-pub key_fixed : (c : ℕ) → is_key c ≡ true → is_fixed c ≡ true
-key_fixed c e = and_left (is_fixed c) (not (is_opener c)) e
-
-pub fixed_spelt : (c : ℕ) → is_key c ≡ true → Spelt (spelled_fixed c) (plain c)
-fixed_spelt c e = record { code = c; shut = not-true (is_opener c) (and_right (is_fixed c) (not (is_opener c)) e); token = fixed_says c (key_fixed c e) }
 
 -- the byte at a place, by the bytes from there on
 byte_of : (s : List ℕ) (at b : ℕ) (w : List ℕ) → part s at (at + length (b ∷ w)) ≡ b ∷ w → get_or s at 0 ≡ b
@@ -71,6 +60,8 @@ pub tee_spelt : Spelt (bytes "t") (plain Tee)
 unfolding load
 tee_spelt = record {
   code = token.Identifier;
-  shut = refl;
-  token = record { literal = λ used. L.None; text = []; reads = tee_reads; says = λ s before after at p h. rw (eq-eqb (at + 1) (at + 1) refl, byte_of s at 116 [] p) refl };
+  literal = λ used. L.None;
+  text = [];
+  reads = tee_reads;
+  says = λ s before after at p h. rw (eq-eqb (at + 1) (at + 1) refl, byte_of s at 116 [] p) refl;
 }

@@ -78,8 +78,10 @@ module _ (s text : List ℕ) (t : Token) (o : Origin s t) (p : Spanned (length s
   unfolding load
   other_name c f = record {
     code = token.Identifier;
-    shut = refl;
-    token = record { literal = λ used. L.None; text = []; reads = name_origin s t o c; says = λ s' before after at e h. rw (tee_by s' at w e, f, e) refl };
+    literal = λ used. L.None;
+    text = [];
+    reads = name_origin s t o c;
+    says = λ s' before after at e h. rw (tee_by s' at w e, f, e) refl;
   }
 
   pub name_spelt : t.code ≡ token.Identifier → SpeltName (word_of (symbol s t)) (load s text t)
@@ -111,7 +113,7 @@ module _ (s text : List ℕ) (t : Token) (o : Origin s t) (p : Spanned (length s
       rw (valued token.Int c (omega arith), l) (go (read_int w) i)
     where
       go : (z : ℤ) → in_i64 z ≡ true → Spelt (literal_text to.int (worth s text t.start t.end (L.Int z))) (sign token.Int (worth s text t.start t.end (L.Int z)))
-      go z i = rw (halves_int z i) (record { code = token.Int; shut = refl; token = record { literal = λ used. L.Int z; text = []; reads = integer_reads z i; says = λ s' before after at e h. refl } })
+      go z i = rw (halves_int z i) (record { code = token.Int; literal = λ used. L.Int z; text = []; reads = integer_reads z i; says = λ s' before after at e h. refl })
 
   -- the value of a token of this code
   value-of : (c : ℕ) → t.code ≡ c → value_of c w o.used ≡ Value t.literal
@@ -124,8 +126,8 @@ module _ (s text : List ℕ) (t : Token) (o : Origin s t) (p : Spanned (length s
       rw (valued token.Bool c (omega arith), ← l) (go (eqb (get_or w 0 0) 84))
     where
       go : (b : Bool) → Spelt (spelled_bool (eqb (cond b 1 0) 1)) (sign token.Bool (cond b 1 0 ∷ []))
-      go true = record { code = token.Bool; shut = refl; token = record { literal = λ used. L.Bool true; text = []; reads = truth_reads true; says = λ s' before after at e h. refl } }
-      go false = record { code = token.Bool; shut = refl; token = record { literal = λ used. L.Bool false; text = []; reads = truth_reads false; says = λ s' before after at e h. refl } }
+      go true = record { code = token.Bool; literal = λ used. L.Bool true; text = []; reads = truth_reads true; says = λ s' before after at e h. refl }
+      go false = record { code = token.Bool; literal = λ used. L.Bool false; text = []; reads = truth_reads false; says = λ s' before after at e h. refl }
 
   none_spelt : t.code ≡ token.None → Said to.none
   unfolding load value_of
@@ -148,8 +150,10 @@ module _ (s text : List ℕ) (t : Token) (o : Origin s t) (p : Spanned (length s
       go : (l : List ℕ) → Spelt (spelled_string l) (sign token.String l)
       go l = record {
         code = token.String;
-        shut = refl;
-        token = record { literal = λ used. L.String used (length l); text = l; reads = string_reads l; says = λ s' before after at e h. ap (sign token.String) (between before l after) };
+        literal = λ used. L.String used (length l);
+        text = l;
+        reads = string_reads l;
+        says = λ s' before after at e h. ap (sign token.String) (between before l after);
       }
 
   float_spelt : t.code ≡ token.Float → Said to.float
@@ -162,13 +166,10 @@ module _ (s text : List ℕ) (t : Token) (o : Origin s t) (p : Spanned (length s
           rw (valued token.Float c (omega arith), ← l)
           (record {
             code = token.Float;
-            shut = refl;
-            token = record {
-              literal = λ used. L.Float x;
-              text = [];
-              reads = subst (λ (v : Literal). Reads token.Float w (λ used. v) []) (sym l) (float_origin s t o c);
-              says = λ s' before after at e h. ap (λ (b : List ℕ). sign token.Float ((leaf_of_lem 0 0 (L.Float x)).p ∷ (leaf_of_lem 0 0 (L.Float x)).q ∷ b)) e;
-            };
+            literal = λ used. L.Float x;
+            text = [];
+            reads = subst (λ (v : Literal). Reads token.Float w (λ used. v) []) (sym l) (float_origin s t o c);
+            says = λ s' before after at e h. ap (λ (b : List ℕ). sign token.Float ((leaf_of_lem 0 0 (L.Float x)).p ∷ (leaf_of_lem 0 0 (L.Float x)).q ∷ b)) e;
           })
       go D.NotAdmitted q = let z : ◌≡◌ {A = ℕ} 0 1 = cc in absurd (omega arith)
 

@@ -8,10 +8,10 @@
 mod answers;
 mod slices;
 
+use cases::lines::line_end;
 use cases::print;
 use cases::sources::{count_of, expand, find};
 use slices::replay;
-use source::line_end;
 
 fn print_case(line: &[u8]) {
     print(line);

@@ -1,6 +1,5 @@
 //! Nesting at and around the 64 that may be open at once.
 
-use super::brackets::BREAKS;
 use crate::random::Random;
 
 /// What opens an E inside an E, and what closes it.
@@ -51,14 +50,10 @@ pub fn nested(random: &mut Random) -> Vec<u8> {
 fn expression(random: &mut Random, src: &mut Vec<u8>, depth: usize) {
     let one = random.once_in(2).then(|| random.below(NESTS.len()));
     let sorts = if random.once_in(3) { NESTS.len() } else { 6 };
-    let over_lines = random.once_in(4);
     let mut closers = Vec::new();
     for _ in 0..depth {
         let (opener, closer) = NESTS[one.unwrap_or_else(|| random.below(sorts))];
         src.extend(opener.bytes());
-        if over_lines && !closer.is_empty() && random.once_in(4) {
-            src.extend(random.pick(&BREAKS).bytes());
-        }
         closers.push(closer);
     }
     if random.once_in(6) {
@@ -71,10 +66,5 @@ fn expression(random: &mut Random, src: &mut Vec<u8>, depth: usize) {
     if random.once_in(5) {
         closers.truncate(random.below(closers.len() + 1));
     }
-    for closer in closers.iter().rev() {
-        if over_lines && random.once_in(4) {
-            src.extend(random.pick(&BREAKS).bytes());
-        }
-        src.extend(closer.bytes());
-    }
+    src.extend(closers.iter().rev().flat_map(|closer| closer.bytes()));
 }

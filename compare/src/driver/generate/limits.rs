@@ -7,12 +7,12 @@ use plain::LONGEST;
 
 /// What a long source is filled with.
 #[rustfmt::skip]
-const FILL: [&str; 34] = [
+const FILL: [&str; 30] = [
     " ", "\n", "a\n", "a;", "(", "a+", "- ", "not ", "a.b", "1,", "1,\n", "a,;", "a,=b,;", "'x'\n", "#", "if a: b\n", "a<", "\u{e9}", "-", "\r", "pass\n", "{a:", "f()[a]\n",
-    "[a,\n]\n", "f(#\n\ra)\n", "())\n", "[()),\n", "\u{ac00}", "\u{ac00}\n", "\u{e9}+", "\u{2118}.", "\u{10400}", "e\u{301},", "a\u{20ac}",
+    "\u{ac00}", "\u{ac00}\n", "\u{e9}+", "\u{2118}.", "\u{10400}", "e\u{301},", "a\u{20ac}",
 ];
 
-/// A source of 65,536 bytes, or a few more or less; of some, all or a line is inside a bracket.
+/// A source of 65,536 bytes, or a few more or less.
 pub fn long(random: &mut Random) -> Vec<u8> {
     let length = match random.below(4) {
         0 => LONGEST + random.between(1, 3),
@@ -20,13 +20,10 @@ pub fn long(random: &mut Random) -> Vec<u8> {
         _ => LONGEST,
     };
     let mut src = if random.once_in(2) { scripts(random, length) } else { random.pick(&FILL).repeat(length).into_bytes() };
-    if random.once_in(4) {
-        src.insert(0, random.byte_of(b"([{"));
-    }
     src.truncate(length);
     if random.once_in(2) {
         let at = random.between(length - 3, length - 1);
-        src[at] = random.byte_of(b"a\n)] \"");
+        src[at] = random.byte_of(b"a\n) \"");
     }
     src
 }

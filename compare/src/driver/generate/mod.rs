@@ -1,6 +1,5 @@
-//! The inputs: five classes whole, then the others in turn by their weight; or by turns one of these and one of those.
+//! The inputs: four classes whole, then the others in turn by their weight; or by turns one of these and one of those.
 
-mod brackets;
 mod cut;
 mod damage;
 mod deep;
@@ -25,19 +24,17 @@ fn enumerated(_: &mut Random) -> Vec<u8> {
     unreachable!("its weight is 0")
 }
 
-pub const CLASSES: [Class; 17] = [
+pub const CLASSES: [Class; 15] = [
     Class { name: "bytes to 3", weight: 0, make: enumerated },
     Class { name: "pieces to 4", weight: 0, make: enumerated },
     Class { name: "letters to 3", weight: 0, make: enumerated },
     Class { name: "characters", weight: 0, make: enumerated },
-    Class { name: "brackets to 5", weight: 0, make: enumerated },
     Class { name: "bytes", weight: 2000, make: soup::bytes },
     Class { name: "runs", weight: 2000, make: runs::runs },
     Class { name: "soups", weight: 4000, make: soup::tokens },
     Class { name: "lines", weight: 2000, make: soup::lines },
     Class { name: "literals", weight: 1500, make: soup::literals },
     Class { name: "names", weight: 2500, make: wide::names },
-    Class { name: "brackets", weight: 2500, make: brackets::brackets },
     Class { name: "scripts", weight: 2500, make: script::script },
     Class { name: "damaged", weight: 4000, make: damage::damaged },
     Class { name: "cut", weight: 4000, make: cut::cut },
@@ -114,8 +111,7 @@ impl Generator {
         let pieces = Strings::of(PIECES.iter().map(|piece| piece.as_bytes()), 4);
         let letters = Strings::of(wide::TELLING.iter().map(|letter| letter.as_bytes()), 3);
         let whole = bytes.map(|src| (0, src)).chain(pieces.map(|src| (1, src))).chain(letters.map(|src| (2, src)));
-        let brackets = Strings::of(brackets::TELLING.iter().map(|piece| piece.as_bytes()), 5);
-        whole.chain(wide::characters().map(|src| (3, src))).chain(brackets.map(|src| (4, src)))
+        whole.chain(wide::characters().map(|src| (3, src)))
     }
 
     /// An input and the number of its class.

@@ -1,6 +1,5 @@
 //! Scripts by the grammar.
 
-use super::brackets::BREAKS;
 use super::wide;
 use crate::random::Random;
 
@@ -16,18 +15,22 @@ pub fn short(random: &mut Random) -> Vec<u8> {
 
 fn of_size(random: &mut Random, most_lines: usize, most_budget: usize) -> Vec<u8> {
     let lines = random.between(1, most_lines);
-    let (wide, over_lines) = (random.once_in(8), random.once_in(3));
-    let budget = random.between(4, most_budget);
-    let mut writer = Writer { budget, random, out: Vec::new(), level: 0, indented: false, open: 0, over_lines, wide };
+    let wide = random.once_in(8);
+    let mut writer = Writer { budget: random.between(4, most_budget), random, out: Vec::new(), level: 0, wide };
     for _ in 0..lines {
         writer.blank_lines();
         writer.line();
     }
-    // An indented line needs its Newline.
-    if writer.random.once_in(6) && writer.out.last() == Some(&b'\n') && !writer.indented {
+    if writer.random.once_in(6) && writer.out.last() == Some(&b'\n') && !ends_indented(&writer.out) {
         writer.out.pop();
     }
     writer.out
+}
+
+/// Whether the last line is indented: its Newline is needed.
+fn ends_indented(out: &[u8]) -> bool {
+    let line = out[..out.len() - 1].iter().rposition(|&b| b == b'\n').map_or(0, |at| at + 1);
+    out[line] == b' ' || out[line] == b'\n'
 }
 
 pub struct Writer<'a> {
@@ -35,12 +38,6 @@ pub struct Writer<'a> {
     out: Vec<u8>,
     budget: usize,
     level: usize,
-    /// Whether the last line is.
-    indented: bool,
-    /// How many brackets the scanner has open: behind `())` inside others it is one too few.
-    open: usize,
-    /// Whether brackets go over several lines.
-    over_lines: bool,
     /// Whether half of the names have characters beyond ASCII.
     wide: bool,
 }
@@ -65,23 +62,10 @@ impl Writer<'_> {
         };
         let number = matches!(self.out.last(), Some(b'0'..=b'9')) && first == b'.';
         let fresh = matches!(self.out.last(), None | Some(b'\n' | b' '));
-        if self.over_lines && self.open > 0 && self.random.once_in(4) {
-            self.out.extend(self.random.pick(&BREAKS).bytes());
-        } else if joins || number || (!fresh && self.random.once_in(3)) {
+        if joins || number || (!fresh && self.random.once_in(3)) {
             self.out.extend(self.random.pick(&[" ", " ", " ", "  ", "\t", " \r"]).bytes());
         }
         self.out.extend(token.bytes());
-        if !matches!(first, b'"' | b'\'') {
-            token.bytes().for_each(|byte| self.count(byte));
-        }
-    }
-
-    fn count(&mut self, byte: u8) {
-        match byte {
-            b'(' | b'[' | b'{' => self.open += 1,
-            b')' | b']' | b'}' => self.open = self.open.saturating_sub(1),
-            _ => {}
-        }
     }
 
     pub fn put_one_of(&mut self, tokens: &[&str]) {
@@ -104,7 +88,6 @@ impl Writer<'_> {
     }
 
     fn indent(&mut self) {
-        self.indented = self.level > 0;
         self.out.extend(vec![b' '; 2 * self.level]);
     }
 

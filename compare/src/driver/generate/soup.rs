@@ -76,9 +76,9 @@ pub fn tokens(random: &mut Random) -> Vec<u8> {
 /// Lines of little, with every sort of opening: spaces, tabs, carriage returns, comments.
 pub fn lines(random: &mut Random) -> Vec<u8> {
     #[rustfmt::skip]
-    const BODIES: [&str; 24] = [
+    const BODIES: [&str; 20] = [
         "a", "a = 1", "if a:", "if a: b", "else:", "elif b:", "def f():", "class C:", "while a:", "for i in b:", "pass", "", "", "# c", "\r", "a;", "(",
-        ")", "return a", "\"x\ny\"", "a = [", "b,", "]", "()),",
+        ")", "return a", "\"x\ny\"",
     ];
     #[rustfmt::skip]
     const WIDE: [&str; 10] = [

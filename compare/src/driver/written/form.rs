@@ -31,8 +31,7 @@ fn bytes<'a>(text: &'a [u8], token: &Token) -> &'a [u8] {
     &text[token.start as usize..token.end as usize]
 }
 
-/// The tokens with two spaces a level before each line and only the due spaces between: no line feed inside brackets, which would be no
-/// token.
+/// The tokens with two spaces a level before each line and only the due spaces between.
 fn spaced(text: &[u8], tokens: &[Token]) -> Vec<u8> {
     let mut out = Vec::new();
     let mut level = 0;

@@ -29,27 +29,6 @@ fn simples() {
     cases.iter().for_each(|(src, text)| becomes(src, text));
 }
 
-/// What 02's change 7 lets stand over several lines is written on one.
-#[test]
-fn brackets_over_lines() {
-    let cases = [
-        ("[\n  a,\n  b,\n]", "[a, b]\n"),
-        ("x = (\n a # why\n +\n b)\n", "x = a + b\n"),
-        ("f(\n\n\ta\r\n,\n)", "f(a)\n"),
-        ("a[\nb\n]={\n# c\n'k'\n:\n1}", "a[b] = {\"k\": 1}\n"),
-        ("(\na,\n)", "a,\n"),
-        ("return(\na,\n b)\n", "return a, b\n"),
-        ("t\t{\n   a}", "t{a}\n"),
-        ("if(\na\n):\n  [\nb]\n", "if a:\n  [b]\n"),
-        ("def f(\na,\n b\n):c\n", "def f(a, b):\n  c\n"),
-        ("class A:\n  def f(#\n):\n    {\n\n}\n", "class A:\n  def f():\n    {}\n"),
-        ("[\n()), (\na), b]", "[()), a, b]\n"),
-        ("[(\n)\n)]", "[())]\n"),
-        ("\r( a,\n b)\n", "a, b\n"),
-    ];
-    cases.iter().for_each(|(src, text)| becomes(src, text));
-}
-
 #[test]
 fn blocks() {
     let cases = [

@@ -16,11 +16,8 @@ enum-known-used c = search rules
 put-token-requires : tie.Need-put-token-requires
 put-token-requires c κs = search rules
 
-behind-token-requires : tie.Need-behind-token-requires
-behind-token-requires c κs = search rules
-
-add-t34 : tie.Need-overflow-add-t34
-add-t34 c = search rules
+add-t32 : tie.Need-overflow-add-t32
+add-t32 c = search rules
 
 enum_told : tie.Need-enum-told
 enum_told c = search rules
@@ -33,8 +30,8 @@ same-length-2 c = search rules
 
 returns : tie.Need-returns
 returns c =
-    let a = c.before.before.before.before.before.before.before.before.before.before.before.before.before.before.before.args in
-    found-on a.src.now a.x c.before.before.before.before.before.before.before.before.before.before.before.before.before.before.before.requires.0.1 a.start a.code a.end c.before.before.before.before.before.before.before.before.before.before.before.before.before.before.before.requires.1.0 c.before.before.before.before.before.before.before.before.before.before.before.before.before.before.before.requires.1.1 c.before.before.before.before.before.before.before.before.before.before.before.before.before.before.before.requires.1.2 _ _ _ a.tokens.now a.text.now _ _ c.before.before.before.before.before.before.before.before.before.before.before.before.before.before.before.requires.0.0 (sym c.before.before.before.before.before.before.used.given.1 ∙ c.before.before.before.before.before.before.before.before.before.before.take-value.ensures.0) c.before.before.before.before.before.before.before.before.before.before.take-value.ensures.1 c.before.before.before.put-token.ensures c.behind-token.ensures.0 c.behind-token.ensures.1
+    let a = c.before.before.before.before.before.before.before.before.before.before.before.before.before.before.args in
+    found-on a.src.now a.x c.before.before.before.before.before.before.before.before.before.before.before.before.before.before.requires.0.1 a.start a.code a.end c.before.before.before.before.before.before.before.before.before.before.before.before.before.before.requires.1.0 c.before.before.before.before.before.before.before.before.before.before.before.before.before.before.requires.1.1 c.before.before.before.before.before.before.before.before.before.before.before.before.before.before.requires.1.2 _ a.tokens.now a.text.now _ _ c.before.before.before.before.before.before.before.before.before.before.before.before.before.before.requires.0.0 (sym c.before.before.before.before.before.used.given.1 ∙ c.before.before.before.before.before.before.before.before.before.take-value.ensures.0) c.before.before.before.before.before.before.before.before.before.take-value.ensures.1 c.before.before.put-token.ensures
 
 same-length-3 : tie.Need-same-length-3
 same-length-3 c = search rules
@@ -59,8 +56,7 @@ found-spec =
     take-value-requires
     enum-known-used
     put-token-requires
-    behind-token-requires
-    add-t34
+    add-t32
     enum_told
     same_length
     same-length-2

@@ -7,7 +7,6 @@ use Prim.Native.Nat.{ℕ}
 use lib.ListN.{length, drop}
 use lib.Seq.{length-take-le}
 use Rattle.areas.specs.Area.{area, token_area}
-use Rattle.lexer.proofs.Lining.{tokens_lined}
 use Rattle.lexer.proofs.scan.Statement.{statement}
 use Rattle.lexer.proofs.scan.Tie as tie
 
@@ -47,7 +46,6 @@ returns c =
       answer = f.answer;
       tokens_are = ap (λ (l : List ℕ). l ++ drop (token_area (length a.src.now)) a.tokens.now) f.tokens_are;
       text_is = ap (λ (l : List ℕ). l ++ drop (length a.src.now) a.text.now) f.text_is;
-      lined = tokens_lined a.src.now;
     }
 
 pub scan-spec : {M : Type 1} → statement M
