@@ -1,4 +1,6 @@
 // Zeros in a part of a lent slice, at two widths.
+#![tactic(auto)]
+
 ghost use Rattle.std.specs.Prelude.{◌≡◌, ◌≤◌, length};
 ghost use Rattle.areas.specs.Area.{zeroed};
 

@@ -1,4 +1,6 @@
 // The tree's records (src/parser/ast.rs): the kinds of nodes, the operators, and the writers of records over lent words.
+#![tactic(auto)]
+
 ghost use Rattle.std.specs.Prelude.{◌≡◌, ◌+◌, ◌*◌, ◌≤◌, T, length};
 ghost use Rattle.literal.specs.Literal.{has_bits};
 ghost use Rattle.ast.specs.Node.{made};
@@ -145,7 +147,7 @@ pub fn set_next(tree: &mut [u32], n: NodeNumber, next: NodeNumber)
 // ---- literals ----
 
 // The kind of a literal's node, and its four fields.
-#[derive(Drop)]
+#[derive(Clone, Copy)]
 pub struct Leaf {
     pub kind: u32,
     pub p: u32,

@@ -5,6 +5,8 @@
 // The contract of a rule is `Rules`: its answer, and the nodes in the tree, are what the descent of the rule comes to. That of a function that has a
 // part of a rule is `Parts`, with the values that are at hand, which are its parameters; `Lists` for the rest of a list. What the levels of operators
 // share stands in the crate `levels`, with contracts of its own.
+#![tactic(auto)]
+
 ghost use Rattle.std.specs.Prelude.{◌≡◌, true, false, [], ◌∷◌, ℕ, ◌+◌, ◌<◌};
 ghost use Rattle.grammar.specs.Sets.{mem};
 ghost use Rattle.grammar.specs.Grammar.{call, many, act, ◌⨾◌, ◌∕◌};
@@ -30,7 +32,7 @@ pub use parameters::names;
 use token::{NodeNumber, TokenNumber};
 
 // E: lambda names : E, or O. Room is asked for before the opening counts.
-#[cycle(args_body_brace_braces_enter_head_index_item_items_lambda_listed_member_pairs_paren_post_posts_rest_round_rule_a_rule_c_rule_e_rule_f_rule_o_rule_p_rule_s_rule_u_shown_tee_value)]
+#[cycle(expr)]
 pub fn rule_e(src: &[u8], toks: &[u32], tree: &mut [u32], left: u32, s: State) -> Parsed
     requires ready { Ready src.now toks.now tree.old s 3 }
     requires begun { Begun src.now toks.now s E }
@@ -64,7 +66,7 @@ pub fn rule_e(src: &[u8], toks: &[u32], tree: &mut [u32], left: u32, s: State) -
 }
 
 // An E, if the token there can begin one.
-#[cycle(args_body_brace_braces_enter_head_index_item_items_lambda_listed_member_pairs_paren_post_posts_rest_round_rule_a_rule_c_rule_e_rule_f_rule_o_rule_p_rule_s_rule_u_shown_tee_value)]
+#[cycle(expr)]
 pub fn enter(src: &[u8], toks: &[u32], tree: &mut [u32], left: u32, s: State) -> Parsed
     requires { Ready src.now toks.now tree.old s 3 }
     ensures { Parts src.now toks.now left (call E) [] a_node s tree.old result tree.new }
@@ -78,7 +80,7 @@ pub fn enter(src: &[u8], toks: &[u32], tree: &mut [u32], left: u32, s: State) ->
 }
 
 // After `lambda`, the token `opener`.
-#[cycle(args_body_brace_braces_enter_head_index_item_items_lambda_listed_member_pairs_paren_post_posts_rest_round_rule_a_rule_c_rule_e_rule_f_rule_o_rule_p_rule_s_rule_u_shown_tee_value)]
+#[cycle(expr)]
 fn lambda(
     src: &[u8],
     toks: &[u32],
@@ -103,7 +105,7 @@ fn lambda(
 }
 
 // After the colon of a lambda with the names from `first` on.
-#[cycle(args_body_brace_braces_enter_head_index_item_items_lambda_listed_member_pairs_paren_post_posts_rest_round_rule_a_rule_c_rule_e_rule_f_rule_o_rule_p_rule_s_rule_u_shown_tee_value)]
+#[cycle(expr)]
 fn body(
     src: &[u8],
     toks: &[u32],
@@ -130,7 +132,7 @@ fn body(
 }
 
 // O: A by `or`.
-#[cycle(args_body_brace_braces_enter_head_index_item_items_lambda_listed_member_pairs_paren_post_posts_rest_round_rule_a_rule_c_rule_e_rule_f_rule_o_rule_p_rule_s_rule_u_shown_tee_value)]
+#[cycle(expr)]
 fn rule_o(src: &[u8], toks: &[u32], tree: &mut [u32], left: u32, s: State) -> Parsed
     requires ready { Ready src.now toks.now tree.old s 4 }
     requires begun { Begun src.now toks.now s O }
@@ -170,7 +172,7 @@ fn rule_o(src: &[u8], toks: &[u32], tree: &mut [u32], left: u32, s: State) -> Pa
 }
 
 // A: C by `and`.
-#[cycle(args_body_brace_braces_enter_head_index_item_items_lambda_listed_member_pairs_paren_post_posts_rest_round_rule_a_rule_c_rule_e_rule_f_rule_o_rule_p_rule_s_rule_u_shown_tee_value)]
+#[cycle(expr)]
 fn rule_a(src: &[u8], toks: &[u32], tree: &mut [u32], left: u32, s: State) -> Parsed
     requires ready { Ready src.now toks.now tree.old s 5 }
     requires begun { Begun src.now toks.now s rules.A }
@@ -210,7 +212,7 @@ fn rule_a(src: &[u8], toks: &[u32], tree: &mut [u32], left: u32, s: State) -> Pa
 }
 
 // C: S by comparisons. `a<b<c` is And(a<b, b<c), whose b is one node.
-#[cycle(args_body_brace_braces_enter_head_index_item_items_lambda_listed_member_pairs_paren_post_posts_rest_round_rule_a_rule_c_rule_e_rule_f_rule_o_rule_p_rule_s_rule_u_shown_tee_value)]
+#[cycle(expr)]
 fn rule_c(src: &[u8], toks: &[u32], tree: &mut [u32], left: u32, s: State) -> Parsed
     requires ready { Ready src.now toks.now tree.old s 6 }
     requires begun { Begun src.now toks.now s C }
@@ -250,7 +252,7 @@ fn rule_c(src: &[u8], toks: &[u32], tree: &mut [u32], left: u32, s: State) -> Pa
 }
 
 // S: P by + -.
-#[cycle(args_body_brace_braces_enter_head_index_item_items_lambda_listed_member_pairs_paren_post_posts_rest_round_rule_a_rule_c_rule_e_rule_f_rule_o_rule_p_rule_s_rule_u_shown_tee_value)]
+#[cycle(expr)]
 fn rule_s(src: &[u8], toks: &[u32], tree: &mut [u32], left: u32, s: State) -> Parsed
     requires ready { Ready src.now toks.now tree.old s 7 }
     requires begun { Begun src.now toks.now s S }
@@ -290,7 +292,7 @@ fn rule_s(src: &[u8], toks: &[u32], tree: &mut [u32], left: u32, s: State) -> Pa
 }
 
 // P: U by * // / %.
-#[cycle(args_body_brace_braces_enter_head_index_item_items_lambda_listed_member_pairs_paren_post_posts_rest_round_rule_a_rule_c_rule_e_rule_f_rule_o_rule_p_rule_s_rule_u_shown_tee_value)]
+#[cycle(expr)]
 fn rule_p(src: &[u8], toks: &[u32], tree: &mut [u32], left: u32, s: State) -> Parsed
     requires ready { Ready src.now toks.now tree.old s 8 }
     requires begun { Begun src.now toks.now s P }
@@ -330,7 +332,7 @@ fn rule_p(src: &[u8], toks: &[u32], tree: &mut [u32], left: u32, s: State) -> Pa
 }
 
 // U: any of not - +, then F.
-#[cycle(args_body_brace_braces_enter_head_index_item_items_lambda_listed_member_pairs_paren_post_posts_rest_round_rule_a_rule_c_rule_e_rule_f_rule_o_rule_p_rule_s_rule_u_shown_tee_value)]
+#[cycle(expr)]
 fn rule_u(src: &[u8], toks: &[u32], tree: &mut [u32], left: u32, s: State) -> Parsed
     requires ready { Ready src.now toks.now tree.old s 9 }
     requires begun { Begun src.now toks.now s U }
@@ -362,7 +364,7 @@ fn rule_u(src: &[u8], toks: &[u32], tree: &mut [u32], left: u32, s: State) -> Pa
 }
 
 // F: a primary, then .name (list) [E] repeated.
-#[cycle(args_body_brace_braces_enter_head_index_item_items_lambda_listed_member_pairs_paren_post_posts_rest_round_rule_a_rule_c_rule_e_rule_f_rule_o_rule_p_rule_s_rule_u_shown_tee_value)]
+#[cycle(expr)]
 fn rule_f(src: &[u8], toks: &[u32], tree: &mut [u32], left: u32, s: State) -> Parsed
     requires ready { Ready src.now toks.now tree.old s 10 }
     requires begun { Begun src.now toks.now s F }
@@ -384,7 +386,7 @@ fn rule_f(src: &[u8], toks: &[u32], tree: &mut [u32], left: u32, s: State) -> Pa
 }
 
 // What stands before the postfix parts: a bracket, the name `t`, a name, or else a literal.
-#[cycle(args_body_brace_braces_enter_head_index_item_items_lambda_listed_member_pairs_paren_post_posts_rest_round_rule_a_rule_c_rule_e_rule_f_rule_o_rule_p_rule_s_rule_u_shown_tee_value)]
+#[cycle(expr)]
 fn head(src: &[u8], toks: &[u32], tree: &mut [u32], left: u32, s: State) -> Parsed
     requires ready { Ready src.now toks.now tree.old s 11 }
     requires begun { Begun src.now toks.now s F }
@@ -421,7 +423,7 @@ fn head(src: &[u8], toks: &[u32], tree: &mut [u32], left: u32, s: State) -> Pars
 }
 
 // After the name `t`, the token `opener`: t{list}, or the name alone.
-#[cycle(args_body_brace_braces_enter_head_index_item_items_lambda_listed_member_pairs_paren_post_posts_rest_round_rule_a_rule_c_rule_e_rule_f_rule_o_rule_p_rule_s_rule_u_shown_tee_value)]
+#[cycle(expr)]
 fn tee(
     src: &[u8],
     toks: &[u32],
@@ -455,7 +457,7 @@ fn tee(
 }
 
 // A list of E up to the bracket `close`, as a node of this kind from the token `opener` on.
-#[cycle(args_body_brace_braces_enter_head_index_item_items_lambda_listed_member_pairs_paren_post_posts_rest_round_rule_a_rule_c_rule_e_rule_f_rule_o_rule_p_rule_s_rule_u_shown_tee_value)]
+#[cycle(expr)]
 fn shown(
     src: &[u8],
     toks: &[u32],
@@ -504,7 +506,7 @@ fn shut(
 }
 
 // A list of E, which may be empty: its first node, or none.
-#[cycle(args_body_brace_braces_enter_head_index_item_items_lambda_listed_member_pairs_paren_post_posts_rest_round_rule_a_rule_c_rule_e_rule_f_rule_o_rule_p_rule_s_rule_u_shown_tee_value)]
+#[cycle(expr)]
 fn items(src: &[u8], toks: &[u32], tree: &mut [u32], left: u32, s: State) -> Parsed
     requires { Ready src.now toks.now tree.old s 1 }
     ensures { Parts src.now toks.now left rules.list [] a_list s tree.old result tree.new }
@@ -522,7 +524,7 @@ fn items(src: &[u8], toks: &[u32], tree: &mut [u32], left: u32, s: State) -> Par
 }
 
 // The rest of a list of E, or of pairs, after the member `newest`: each member is linked to the one before it.
-#[cycle(args_body_brace_braces_enter_head_index_item_items_lambda_listed_member_pairs_paren_post_posts_rest_round_rule_a_rule_c_rule_e_rule_f_rule_o_rule_p_rule_s_rule_u_shown_tee_value)]
+#[cycle(expr)]
 fn rest(
     src: &[u8],
     toks: &[u32],
@@ -564,7 +566,7 @@ fn rest(
 }
 
 // After `{`: `}` at once is a Dict, else the first E decides. Either was asked for, so what is neither is refused by 14.
-#[cycle(args_body_brace_braces_enter_head_index_item_items_lambda_listed_member_pairs_paren_post_posts_rest_round_rule_a_rule_c_rule_e_rule_f_rule_o_rule_p_rule_s_rule_u_shown_tee_value)]
+#[cycle(expr)]
 fn braces(
     src: &[u8],
     toks: &[u32],
@@ -596,7 +598,7 @@ fn braces(
 }
 
 // After the first E in braces: a colon makes it a pair, anything else a member.
-#[cycle(args_body_brace_braces_enter_head_index_item_items_lambda_listed_member_pairs_paren_post_posts_rest_round_rule_a_rule_c_rule_e_rule_f_rule_o_rule_p_rule_s_rule_u_shown_tee_value)]
+#[cycle(expr)]
 fn brace(
     src: &[u8],
     toks: &[u32],
@@ -629,7 +631,7 @@ fn brace(
 }
 
 // The rest of a list of E whose member `first` was read, up to the bracket `close`, as a node of this kind from the token `opener` on.
-#[cycle(args_body_brace_braces_enter_head_index_item_items_lambda_listed_member_pairs_paren_post_posts_rest_round_rule_a_rule_c_rule_e_rule_f_rule_o_rule_p_rule_s_rule_u_shown_tee_value)]
+#[cycle(expr)]
 fn listed(
     src: &[u8],
     toks: &[u32],
@@ -653,7 +655,7 @@ fn listed(
 }
 
 // A Dict, after the colon of its first pair.
-#[cycle(args_body_brace_braces_enter_head_index_item_items_lambda_listed_member_pairs_paren_post_posts_rest_round_rule_a_rule_c_rule_e_rule_f_rule_o_rule_p_rule_s_rule_u_shown_tee_value)]
+#[cycle(expr)]
 fn pairs(
     src: &[u8],
     toks: &[u32],
@@ -690,7 +692,7 @@ fn pairs(
 }
 
 // A pair, after its colon.
-#[cycle(args_body_brace_braces_enter_head_index_item_items_lambda_listed_member_pairs_paren_post_posts_rest_round_rule_a_rule_c_rule_e_rule_f_rule_o_rule_p_rule_s_rule_u_shown_tee_value)]
+#[cycle(expr)]
 fn value(src: &[u8], toks: &[u32], tree: &mut [u32], left: u32, key: NodeNumber, s: State) -> Parsed
     requires ready { Ready src.now toks.now tree.old s 1 }
     requires key_lt_nodes { key.0 < s.nodes }
@@ -709,7 +711,7 @@ fn value(src: &[u8], toks: &[u32], tree: &mut [u32], left: u32, key: NodeNumber,
 }
 
 // A pair.
-#[cycle(args_body_brace_braces_enter_head_index_item_items_lambda_listed_member_pairs_paren_post_posts_rest_round_rule_a_rule_c_rule_e_rule_f_rule_o_rule_p_rule_s_rule_u_shown_tee_value)]
+#[cycle(expr)]
 fn item(src: &[u8], toks: &[u32], tree: &mut [u32], left: u32, s: State) -> Parsed
     requires ready { Ready src.now toks.now tree.old s 1 }
     requires begun { Begun src.now toks.now s E }
@@ -730,7 +732,7 @@ fn item(src: &[u8], toks: &[u32], tree: &mut [u32], left: u32, s: State) -> Pars
 }
 
 // A member of a list: a pair, or an E.
-#[cycle(args_body_brace_braces_enter_head_index_item_items_lambda_listed_member_pairs_paren_post_posts_rest_round_rule_a_rule_c_rule_e_rule_f_rule_o_rule_p_rule_s_rule_u_shown_tee_value)]
+#[cycle(expr)]
 fn member(src: &[u8], toks: &[u32], tree: &mut [u32], left: u32, paired: bool, s: State) -> Parsed
     requires ready { Ready src.now toks.now tree.old s 1 }
     requires begun { Begun src.now toks.now s E }
@@ -744,7 +746,7 @@ fn member(src: &[u8], toks: &[u32], tree: &mut [u32], left: u32, paired: bool, s
 }
 
 // Parentheses, after the `(` that is the token `opener`.
-#[cycle(args_body_brace_braces_enter_head_index_item_items_lambda_listed_member_pairs_paren_post_posts_rest_round_rule_a_rule_c_rule_e_rule_f_rule_o_rule_p_rule_s_rule_u_shown_tee_value)]
+#[cycle(expr)]
 fn round(
     src: &[u8],
     toks: &[u32],
@@ -790,7 +792,7 @@ fn unit(src: &[u8], toks: &[u32], tree: &mut [u32], opener: TokenNumber, s: Stat
 }
 
 // After the first E in parentheses: `)`, and the node's span is widened; or a comma, and it is a Tuple.
-#[cycle(args_body_brace_braces_enter_head_index_item_items_lambda_listed_member_pairs_paren_post_posts_rest_round_rule_a_rule_c_rule_e_rule_f_rule_o_rule_p_rule_s_rule_u_shown_tee_value)]
+#[cycle(expr)]
 fn paren(
     src: &[u8],
     toks: &[u32],
@@ -828,7 +830,7 @@ fn paren(
 }
 
 // What follows a primary.
-#[cycle(args_body_brace_braces_enter_head_index_item_items_lambda_listed_member_pairs_paren_post_posts_rest_round_rule_a_rule_c_rule_e_rule_f_rule_o_rule_p_rule_s_rule_u_shown_tee_value)]
+#[cycle(expr)]
 fn posts(
     src: &[u8],
     toks: &[u32],
@@ -861,7 +863,7 @@ fn posts(
 }
 
 // One of them: the token there begins it.
-#[cycle(args_body_brace_braces_enter_head_index_item_items_lambda_listed_member_pairs_paren_post_posts_rest_round_rule_a_rule_c_rule_e_rule_f_rule_o_rule_p_rule_s_rule_u_shown_tee_value)]
+#[cycle(expr)]
 fn post(src: &[u8], toks: &[u32], tree: &mut [u32], left: u32, n: NodeNumber, s: State) -> Parsed
     requires ready { Ready src.now toks.now tree.old s 2 }
     requires n_lt_nodes { (n.0 < s.nodes) × (mem (symbol_at src.now toks.now s.at.0) (Dot ∷ LParen ∷ LBracket ∷ []) ≡ true) }
@@ -887,7 +889,7 @@ fn post(src: &[u8], toks: &[u32], tree: &mut [u32], left: u32, n: NodeNumber, s:
 }
 
 // A call, after its `(`.
-#[cycle(args_body_brace_braces_enter_head_index_item_items_lambda_listed_member_pairs_paren_post_posts_rest_round_rule_a_rule_c_rule_e_rule_f_rule_o_rule_p_rule_s_rule_u_shown_tee_value)]
+#[cycle(expr)]
 fn args(src: &[u8], toks: &[u32], tree: &mut [u32], left: u32, n: NodeNumber, s: State) -> Parsed
     requires ready { Ready src.now toks.now tree.old s 1 }
     requires n_lt_nodes { n.0 < s.nodes }
@@ -911,7 +913,7 @@ fn args(src: &[u8], toks: &[u32], tree: &mut [u32], left: u32, n: NodeNumber, s:
 }
 
 // An index, after its `[`.
-#[cycle(args_body_brace_braces_enter_head_index_item_items_lambda_listed_member_pairs_paren_post_posts_rest_round_rule_a_rule_c_rule_e_rule_f_rule_o_rule_p_rule_s_rule_u_shown_tee_value)]
+#[cycle(expr)]
 fn index(src: &[u8], toks: &[u32], tree: &mut [u32], left: u32, n: NodeNumber, s: State) -> Parsed
     requires ready { Ready src.now toks.now tree.old s 1 }
     requires n_lt_nodes { n.0 < s.nodes }

@@ -1,5 +1,7 @@
 // The leaves of the expressions' rules (src/parser/mod.rs): the function of each action that writes an expression's node. Their contracts are those of
 // specs/Contract.antt of `leaves`.
+#![tactic(auto)]
+
 mod chain;
 mod literal_node;
 mod signs;

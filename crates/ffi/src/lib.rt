@@ -1,5 +1,7 @@
 // The reader, its check of UTF-8 and the writer for C and Rust to call. A slice is a pointer and then a length there. Nothing asks such a caller what a contract
 // requires, so the exported functions require nothing: they test.
+#![tactic(auto)]
+
 ghost use Rattle.std.specs.Prelude.{◌≡◌, ◌++◌, ◌≤◌, length, drop};
 ghost use Rattle.reader.specs.Answer.{numbers_of};
 ghost use Rattle.ffi.specs.Called.{words, Called, Small};

@@ -1,5 +1,7 @@
 // What the five levels of operators share: O, A, C, S and P each read an operand, and while an operator of theirs stands next, another. What they make of
 // it differs for C: O, A, S and P group left, and a chain of comparisons is an And of them.
+#![tactic(auto)]
+
 ghost use Rattle.std.specs.Prelude.{◌≡◌, List, ℕ, ◌≤◌};
 ghost use Rattle.grammar.specs.Sets.{mem};
 ghost use Rattle.lookahead.specs.Tokens.{eof_at, Tokens};
@@ -10,7 +12,7 @@ use leaves::{Added, State};
 use token::{NodeNumber, TokenNumber};
 
 // The levels of operators: O, A, C, S and P. The operand of each is the next of them, and that of P is U.
-#[derive(Drop)]
+#[derive(Clone, Copy)]
 pub enum Level {
     Or,
     And,
@@ -20,7 +22,7 @@ pub enum Level {
 }
 
 // What stands before an operand: nothing of its level, or an operator and the node of all that stands before that.
-#[derive(Drop)]
+#[derive(Clone, Copy)]
 pub enum Before {
     Nothing,
     Operator(TokenNumber, NodeNumber),
@@ -28,7 +30,7 @@ pub enum Before {
 
 // What stands before an operand of comparisons: nothing; an operator and the operand before that; or an operator, the node of the comparisons so far and
 // the last operand of these.
-#[derive(Drop)]
+#[derive(Clone, Copy)]
 pub enum Chain {
     Nothing,
     First(TokenNumber, NodeNumber),
@@ -37,7 +39,7 @@ pub enum Chain {
 
 // What stands behind an operand: nothing of its level; an operator and what can begin an operand, with the state there; or an operator and nothing that
 // can.
-#[derive(Drop)]
+#[derive(Clone, Copy)]
 pub enum Behind {
     Nothing,
     Operand(State),

@@ -1,6 +1,8 @@
 // The scanner (src/lexer/mod.rs): indentation, skipping, and the token list, written three words a token with the decoded text beside it.
 //
 // Rust's `token_queue` is a number of marks that are written at once, and its `indent_stack` is its top, since the stack reads 0, 2, 4.
+#![tactic(auto)]
+
 mod put;
 mod value;
 
@@ -18,7 +20,7 @@ use value::Taken;
 pub use value::literal_of;
 
 // The scanner's state: the place reached, 01's flag, the deepest open level, the tokens so far, and the bytes of text so far.
-#[derive(Drop)]
+#[derive(Clone, Copy)]
 pub struct Lexer {
     pub at: usize,
     pub flag: bool,
@@ -28,14 +30,14 @@ pub struct Lexer {
 }
 
 // A line's spaces are counted, or refused.
-#[derive(Drop)]
+#[derive(Clone, Copy)]
 enum Marked {
     On(Lexer),
     No { number: u32, place: usize },
 }
 
 // A token is written, or the last one was, or the source is refused.
-#[derive(Drop)]
+#[derive(Clone, Copy)]
 enum Turn {
     On(Lexer),
     End { count: usize, used: usize },
@@ -43,7 +45,7 @@ enum Turn {
 }
 
 // The scanner's answer: T and the bytes of text, or the number and place of a refusal.
-#[derive(Drop)]
+#[derive(Clone, Copy)]
 pub enum Scanned {
     Tokens { count: usize, text: usize },
     No { number: u32, place: usize },

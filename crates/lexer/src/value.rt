@@ -9,7 +9,7 @@ ghost use Rattle.lexer.specs.Steps.{taken_of};
 use literal::{Lexed, Literal};
 
 // The text is so long then; or the value is refused.
-#[derive(Drop)]
+#[derive(Clone, Copy)]
 pub enum Taken {
     Used(usize),
     Refused,

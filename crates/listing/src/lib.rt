@@ -1,4 +1,6 @@
 // A source's printed form, written into a lent buffer: all of the program but its input and output.
+#![tactic(auto)]
+
 ghost use Rattle.std.specs.Prelude.{◌+◌, ◌*◌, ◌≤◌, length, take};
 ghost use Rattle.reader.specs.Answer.{numbers_of};
 ghost use Rattle.reader.specs.Outcome.{outcome};

@@ -1,8 +1,10 @@
 // The value of a literal, made from its token. Port of `lex_integer`, `lex_float` and `lex_string` in raw_token.rs.
+#![tactic(auto)]
+
 ghost use Rattle.std.specs.Prelude.{◌≡◌, ◌^◌, ◌≤◌, ◌<◌, length};
 ghost use Rattle.literal.specs.Literal.{lex_integer_lem, lex_float_lem, lex_string_lem};
 
-#[derive(Drop)]
+#[derive(Clone, Copy)]
 pub enum Literal {
     Bool(bool),
     Int(i64),
@@ -12,7 +14,7 @@ pub enum Literal {
     None,
 }
 
-#[derive(Drop)]
+#[derive(Clone, Copy)]
 pub enum Lexed {
     Value(Literal),
     // An Int out of range, or a Float that is not admitted.

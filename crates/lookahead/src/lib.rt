@@ -1,5 +1,7 @@
 // What the tree reader asks of the tokens (src/parser/mod.rs): a token's words and symbol, whether the symbol is in a set that a rule asks for, and where a
 // run of tokens ends. Nothing here knows of nodes.
+#![tactic(auto)]
+
 mod read;
 mod sets;
 mod skip;

@@ -6,13 +6,13 @@ ghost use Rattle.numbers.specs.Decimal.{whole, scale_of, value_of, after_dot, de
 use super::digits::{find, joined};
 
 // 10 ^ p: a factor for p at least 0, else a divisor.
-#[derive(Drop)]
+#[derive(Clone, Copy)]
 enum Scale {
     Times(u64),
     Over(u64),
 }
 
-#[derive(Drop)]
+#[derive(Clone, Copy)]
 pub enum Decimal {
     Value(f64),
     NotAdmitted,

@@ -4,7 +4,7 @@ ghost use Rattle.numbers.specs.Integer.{in_range, integer_of};
 
 use super::digits::joined;
 
-#[derive(Drop)]
+#[derive(Clone, Copy)]
 pub enum Integer {
     Value(i64),
     // Below -2^63 or above 2^63 - 1.

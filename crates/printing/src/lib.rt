@@ -2,6 +2,8 @@
 //
 // Each writer writes at a place, each byte once, and answers the place behind what it wrote. Its contract, `Wrote`, says which bytes those are, and
 // that the rest of the buffer is as it was.
+#![tactic(auto)]
+
 ghost use Rattle.std.specs.Prelude.{[], ◌∷◌, ◌≡◌, ◌+◌, ◌*◌, ◌≤◌, ◌<◌, length, take};
 ghost use Rattle.ast.specs.Words.{nodes_of};
 ghost use Rattle.numbers.specs.Digits.{digits};

@@ -1,5 +1,7 @@
 // The raw token at a place of the source (src/lexer/raw_token.rs). The contract of `token_at` cites the table of specs/Table.antt; each function
 // behind it finds one kind of token, by a contract of its own, and the laws of proofs/First.antt join the two.
+#![tactic(auto)]
+
 ghost use Rattle.std.specs.Prelude.{◌≡◌, true, ◌+◌, ◌^◌, ◌<◌, length, get_or};
 ghost use Rattle.source.specs.Bytes.{digit};
 ghost use Rattle.raw_token.specs.Pattern.{is_quote};
@@ -10,7 +12,7 @@ ghost use Rattle.raw_token.specs.declared.RawToken.TheVariants as variants;
 mod length; // length.rt: the lengths of numbers and strings
 mod word; // word.rt: keywords and names
 
-#[derive(Drop)]
+#[derive(Clone, Copy)]
 pub enum RawToken {
     Found { code: u32, end: usize },
     NoMatch,

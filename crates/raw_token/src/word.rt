@@ -8,7 +8,7 @@ ghost use Rattle.raw_token.specs.Parts.{keywords, code_of, ascii_begins, ascii_c
 use crate::RawToken;
 
 // Where the ASCII characters of a name end, and their number to the base 256, of which the last eight count.
-#[derive(Drop)]
+#[derive(Clone, Copy)]
 pub(crate) struct Spelling {
     pub end: usize,
     pub number: u64,

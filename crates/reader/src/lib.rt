@@ -4,6 +4,8 @@
 // The areas are the fronts of the slices: for a source of n bytes 3(n+1) words of tokens, n bytes of text and 16n+16 words of tree. `parse_source` lends
 // the areas alone to what works in them, so what lies beyond stays. Nothing is cleared before the work: each word of an area is written by it, or is
 // zeroed once behind it.
+#![tactic(auto)]
+
 ghost use Rattle.std.specs.Prelude.{◌≡◌, ◌++◌, ◌*◌, ◌≤◌, length, take, drop, replicate};
 ghost use Rattle.lexer.specs.Scan.{token_list};
 ghost use Rattle.reader.specs.declared.Answer.TheVariants as answer;
@@ -22,7 +24,7 @@ pub const LONGEST: usize = 65536;
 pub const VERSION: u32 = 2;
 
 // specs/Answer.antt has 01's six numbers of each case.
-#[derive(Drop)]
+#[derive(Clone, Copy)]
 pub enum Answer {
     // Accepted: the areas hold T tokens, N nodes and so many bytes of text; so many rules were opened.
     Tree {

@@ -1,5 +1,7 @@
 // The statements on one line (src/parser/mod.rs): the rule Simple, and simples, which opens nothing. A statement's node is the last that is
 // written for it, so the last statement of simples is the last node (`Newest`, `a_growing`).
+#![tactic(auto)]
+
 ghost use Rattle.std.specs.Prelude.{◌≡◌, List, [], ◌∷◌, ℕ, ◌+◌, ◌-◌, ◌*◌, ◌<◌, ◌≤◌, length};
 ghost use Rattle.grammar.specs.Grammar.{act};
 ghost use Rattle.pyhyeon.specs.Action.{alone};
@@ -16,7 +18,7 @@ use leaves::{Added, Parsed, State};
 use token::{NodeNumber, TokenNumber};
 
 // What a t is to its statement: what the Return of this keyword gives; its first t, which may be a target; or the value of this target.
-#[derive(Drop)]
+#[derive(Clone, Copy)]
 enum Role {
     Return(TokenNumber),
     First,
@@ -24,7 +26,7 @@ enum Role {
 }
 
 // What is gathered before a statement or a Line: nothing, or a list in the making, by its first node and its last.
-#[derive(Drop)]
+#[derive(Clone, Copy)]
 pub enum Gathered {
     Nothing,
     List(NodeNumber, NodeNumber),

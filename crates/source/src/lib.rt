@@ -1,4 +1,6 @@
 // Bytes of the source: a byte past the end, the digits and their runs. Every layer of the scanner reads by these.
+#![tactic(auto)]
+
 ghost use Rattle.std.specs.Prelude.{◌≡◌, get_or};
 ghost use Rattle.source.specs.Bytes.{digit, run, Len};
 

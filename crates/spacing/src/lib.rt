@@ -1,4 +1,6 @@
 // What stands between tokens (src/lexer/mod.rs): blanks and comments, and the spaces that open a line.
+#![tactic(auto)]
+
 mod gap;
 mod line;
 

@@ -5,7 +5,7 @@ ghost use Rattle.spacing.specs.Indentation.{spaces_end_lem, level_of, indentatio
 // How many spaces one level is more than the one below it.
 pub const STEP: usize = 2;
 
-#[derive(Drop)]
+#[derive(Clone, Copy)]
 pub enum Indentation {
     // The line has no token of its own: the place behind its spaces.
     Blank(usize),

@@ -4,6 +4,8 @@
 //
 // Contracts are those of the leaves: `Rules` for a rule, `Parts` for a part of one, `Lists` for the rest of a list; `Guards` for an E and the Block
 // behind it, `Newest` where a statement's node is the last that was written. A Line gives a list in the making (`a_growing`), a Block a list.
+#![tactic(auto)]
+
 ghost use Rattle.std.specs.Prelude.{◌≡◌, true, List, [], ◌∷◌, ℕ, ◌<◌, ◌≤◌};
 ghost use Rattle.grammar.specs.Sets.{mem};
 ghost use Rattle.grammar.specs.Grammar.{call};
@@ -30,14 +32,14 @@ pub use whole::program;
 const DEPTH: u32 = 64;
 
 // The answer to "E, Block": the node of E, the first node of the Block and the state behind both; or a refusal, as `Parsed` has it.
-#[derive(Drop)]
+#[derive(Clone, Copy)]
 enum Clause {
     Both(NodeNumber, NodeNumber, State),
     Refused(u32, State),
 }
 
 // Line: class, def, if, while, for, or simples.
-#[cycle(again_block_branch_class_body_cond_each_elif_elifs_further_given_guarded_indented_inside_lines_member_method_named_other_range_rule_block_rule_class_rule_line_suite)]
+#[cycle(stmt)]
 fn rule_line(src: &[u8], toks: &[u32], tree: &mut [u32], left: u32, s: State) -> Parsed
     requires ready { Ready src.now toks.now tree.old s 1 }
     requires begun { Begun src.now toks.now s Line }
@@ -63,7 +65,7 @@ fn rule_line(src: &[u8], toks: &[u32], tree: &mut [u32], left: u32, s: State) ->
 }
 
 // Block, opened at its colon: one or more Newlines, Indent, Lines, Dedent; or simples. Room is asked for before the opening counts.
-#[cycle(again_block_branch_class_body_cond_each_elif_elifs_further_given_guarded_indented_inside_lines_member_method_named_other_range_rule_block_rule_class_rule_line_suite)]
+#[cycle(stmt)]
 fn rule_block(src: &[u8], toks: &[u32], tree: &mut [u32], left: u32, s: State) -> Parsed
     requires ready { Ready src.now toks.now tree.old s 9 }
     requires begun { Begun src.now toks.now s Block }
@@ -99,7 +101,7 @@ fn rule_block(src: &[u8], toks: &[u32], tree: &mut [u32], left: u32, s: State) -
 }
 
 // A Block, if the token there can begin one.
-#[cycle(again_block_branch_class_body_cond_each_elif_elifs_further_given_guarded_indented_inside_lines_member_method_named_other_range_rule_block_rule_class_rule_line_suite)]
+#[cycle(stmt)]
 fn block(src: &[u8], toks: &[u32], tree: &mut [u32], left: u32, s: State) -> Parsed
     requires { Ready src.now toks.now tree.old s 9 }
     ensures { Parts src.now toks.now left (call Block) [] a_list s tree.old result tree.new }
@@ -113,7 +115,7 @@ fn block(src: &[u8], toks: &[u32], tree: &mut [u32], left: u32, s: State) -> Par
 }
 
 // Indent, Lines or none, Dedent.
-#[cycle(again_block_branch_class_body_cond_each_elif_elifs_further_given_guarded_indented_inside_lines_member_method_named_other_range_rule_block_rule_class_rule_line_suite)]
+#[cycle(stmt)]
 fn indented(src: &[u8], toks: &[u32], tree: &mut [u32], left: u32, s: State) -> Parsed
     requires { Ready src.now toks.now tree.old s 1 }
     ensures { Parts src.now toks.now left indented_on [] a_list s tree.old result tree.new }
@@ -131,7 +133,7 @@ fn indented(src: &[u8], toks: &[u32], tree: &mut [u32], left: u32, s: State) -> 
 }
 
 // Lines with Newlines before them, or nothing.
-#[cycle(again_block_branch_class_body_cond_each_elif_elifs_further_given_guarded_indented_inside_lines_member_method_named_other_range_rule_block_rule_class_rule_line_suite)]
+#[cycle(stmt)]
 fn inside(src: &[u8], toks: &[u32], tree: &mut [u32], left: u32, s: State) -> Parsed
     requires { Ready src.now toks.now tree.old s 1 }
     ensures { Parts src.now toks.now left inside_on [] a_list s tree.old result tree.new }
@@ -163,7 +165,7 @@ fn begins_lines(symbol: u32) -> bool
 }
 
 // Lines each with Newlines after it: at least one. The answer's node is the first.
-#[cycle(again_block_branch_class_body_cond_each_elif_elifs_further_given_guarded_indented_inside_lines_member_method_named_other_range_rule_block_rule_class_rule_line_suite)]
+#[cycle(stmt)]
 fn lines(src: &[u8], toks: &[u32], tree: &mut [u32], left: u32, s: State) -> Parsed
     requires { Ready src.now toks.now tree.old s 1 }
     ensures { Parts src.now toks.now left lines_on [] a_list s tree.old result tree.new }
@@ -216,7 +218,7 @@ fn dedent(src: &[u8], toks: &[u32], first: NodeNumber, s: State) -> Parsed
 }
 
 // Class, opened at its keyword: name, colon, one or more Newlines, Indent, one or more Methods with no Newline between, Dedent.
-#[cycle(again_block_branch_class_body_cond_each_elif_elifs_further_given_guarded_indented_inside_lines_member_method_named_other_range_rule_block_rule_class_rule_line_suite)]
+#[cycle(stmt)]
 fn rule_class(src: &[u8], toks: &[u32], tree: &mut [u32], left: u32, s: State) -> Parsed
     requires ready { Ready src.now toks.now tree.old s 9 }
     requires begun { Begun src.now toks.now s Class }
@@ -241,7 +243,7 @@ fn rule_class(src: &[u8], toks: &[u32], tree: &mut [u32], left: u32, s: State) -
 }
 
 // After a Class's name: colon, one or more Newlines.
-#[cycle(again_block_branch_class_body_cond_each_elif_elifs_further_given_guarded_indented_inside_lines_member_method_named_other_range_rule_block_rule_class_rule_line_suite)]
+#[cycle(stmt)]
 fn suite(
     src: &[u8],
     toks: &[u32],
@@ -279,7 +281,7 @@ fn suite(
 }
 
 // Indent, one or more Methods, Dedent.
-#[cycle(again_block_branch_class_body_cond_each_elif_elifs_further_given_guarded_indented_inside_lines_member_method_named_other_range_rule_block_rule_class_rule_line_suite)]
+#[cycle(stmt)]
 fn class_body(
     src: &[u8],
     toks: &[u32],
@@ -340,7 +342,7 @@ fn class_end(
 }
 
 // A Method.
-#[cycle(again_block_branch_class_body_cond_each_elif_elifs_further_given_guarded_indented_inside_lines_member_method_named_other_range_rule_block_rule_class_rule_line_suite)]
+#[cycle(stmt)]
 fn method(src: &[u8], toks: &[u32], tree: &mut [u32], left: u32, s: State) -> Parsed
     requires { Ready src.now toks.now tree.old s 1 }
     ensures { Parts src.now toks.now left (rules.definition kind.Method) [] a_node s tree.old result tree.new }
@@ -354,7 +356,7 @@ fn method(src: &[u8], toks: &[u32], tree: &mut [u32], left: u32, s: State) -> Pa
 }
 
 // A Def or Method after its keyword: name, parenthesis, names.
-#[cycle(again_block_branch_class_body_cond_each_elif_elifs_further_given_guarded_indented_inside_lines_member_method_named_other_range_rule_block_rule_class_rule_line_suite)]
+#[cycle(stmt)]
 fn named(
     src: &[u8],
     toks: &[u32],
@@ -384,7 +386,7 @@ fn named(
 }
 
 // After the opening parenthesis: names, closing parenthesis, Block.
-#[cycle(again_block_branch_class_body_cond_each_elif_elifs_further_given_guarded_indented_inside_lines_member_method_named_other_range_rule_block_rule_class_rule_line_suite)]
+#[cycle(stmt)]
 fn given(
     src: &[u8],
     toks: &[u32],
@@ -421,7 +423,7 @@ fn given(
 }
 
 // E, and the Block behind it: what While, For, If and Elif have in common.
-#[cycle(again_block_branch_class_body_cond_each_elif_elifs_further_given_guarded_indented_inside_lines_member_method_named_other_range_rule_block_rule_class_rule_line_suite)]
+#[cycle(stmt)]
 fn guarded(src: &[u8], toks: &[u32], tree: &mut [u32], left: u32, s: State) -> Clause
     requires { Ready src.now toks.now tree.old s 1 }
     ensures { Guards src.now toks.now left s tree.old result tree.new }
@@ -440,7 +442,7 @@ fn guarded(src: &[u8], toks: &[u32], tree: &mut [u32], left: u32, s: State) -> C
 }
 
 // While after its keyword: E, Block.
-#[cycle(again_block_branch_class_body_cond_each_elif_elifs_further_given_guarded_indented_inside_lines_member_method_named_other_range_rule_block_rule_class_rule_line_suite)]
+#[cycle(stmt)]
 fn again(
     src: &[u8],
     toks: &[u32],
@@ -467,7 +469,7 @@ fn again(
 }
 
 // For after its keyword: name, `in`.
-#[cycle(again_block_branch_class_body_cond_each_elif_elifs_further_given_guarded_indented_inside_lines_member_method_named_other_range_rule_block_rule_class_rule_line_suite)]
+#[cycle(stmt)]
 fn each(
     src: &[u8],
     toks: &[u32],
@@ -496,7 +498,7 @@ fn each(
 }
 
 // For after `in`: E, Block.
-#[cycle(again_block_branch_class_body_cond_each_elif_elifs_further_given_guarded_indented_inside_lines_member_method_named_other_range_rule_block_rule_class_rule_line_suite)]
+#[cycle(stmt)]
 fn range(
     src: &[u8],
     toks: &[u32],
@@ -524,7 +526,7 @@ fn range(
 }
 
 // If after its keyword: E, Block, and what may follow at once.
-#[cycle(again_block_branch_class_body_cond_each_elif_elifs_further_given_guarded_indented_inside_lines_member_method_named_other_range_rule_block_rule_class_rule_line_suite)]
+#[cycle(stmt)]
 fn cond(
     src: &[u8],
     toks: &[u32],
@@ -546,7 +548,7 @@ fn cond(
 }
 
 // After the first Block of an If: its Elifs and its Else.
-#[cycle(again_block_branch_class_body_cond_each_elif_elifs_further_given_guarded_indented_inside_lines_member_method_named_other_range_rule_block_rule_class_rule_line_suite)]
+#[cycle(stmt)]
 fn branch(
     src: &[u8],
     toks: &[u32],
@@ -581,7 +583,7 @@ fn branch(
 }
 
 // Elifs, or none.
-#[cycle(again_block_branch_class_body_cond_each_elif_elifs_further_given_guarded_indented_inside_lines_member_method_named_other_range_rule_block_rule_class_rule_line_suite)]
+#[cycle(stmt)]
 fn elifs(src: &[u8], toks: &[u32], tree: &mut [u32], left: u32, s: State) -> Parsed
     requires { Ready src.now toks.now tree.old s 1 }
     ensures { Parts src.now toks.now left elifs_on [] a_list s tree.old result tree.new }
@@ -599,7 +601,7 @@ fn elifs(src: &[u8], toks: &[u32], tree: &mut [u32], left: u32, s: State) -> Par
 }
 
 // The Methods, or the Elifs, after the first: each is linked to the one before it.
-#[cycle(again_block_branch_class_body_cond_each_elif_elifs_further_given_guarded_indented_inside_lines_member_method_named_other_range_rule_block_rule_class_rule_line_suite)]
+#[cycle(stmt)]
 fn further(
     src: &[u8],
     toks: &[u32],
@@ -645,7 +647,7 @@ fn leads(symbol: u32, methods: bool) -> bool
 }
 
 // A Method, or an Elif, at its keyword.
-#[cycle(again_block_branch_class_body_cond_each_elif_elifs_further_given_guarded_indented_inside_lines_member_method_named_other_range_rule_block_rule_class_rule_line_suite)]
+#[cycle(stmt)]
 fn member(src: &[u8], toks: &[u32], tree: &mut [u32], left: u32, methods: bool, s: State) -> Parsed
     requires ready { Ready src.now toks.now tree.old s 1 }
     requires methods_value { mem (symbol_at src.now toks.now s.at.0) (leading methods ∷ []) ≡ true }
@@ -659,7 +661,7 @@ fn member(src: &[u8], toks: &[u32], tree: &mut [u32], left: u32, methods: bool, 
 }
 
 // An Elif, at its keyword: E, Block.
-#[cycle(again_block_branch_class_body_cond_each_elif_elifs_further_given_guarded_indented_inside_lines_member_method_named_other_range_rule_block_rule_class_rule_line_suite)]
+#[cycle(stmt)]
 fn elif(src: &[u8], toks: &[u32], tree: &mut [u32], left: u32, s: State) -> Parsed
     requires ready { Ready src.now toks.now tree.old s 1 }
     requires at_value { mem (symbol_at src.now toks.now s.at.0) (Elif ∷ []) ≡ true }
@@ -679,7 +681,7 @@ fn elif(src: &[u8], toks: &[u32], tree: &mut [u32], left: u32, s: State) -> Pars
 }
 
 // An Else as a list of one, or none.
-#[cycle(again_block_branch_class_body_cond_each_elif_elifs_further_given_guarded_indented_inside_lines_member_method_named_other_range_rule_block_rule_class_rule_line_suite)]
+#[cycle(stmt)]
 fn other(src: &[u8], toks: &[u32], tree: &mut [u32], left: u32, s: State) -> Parsed
     requires { Ready src.now toks.now tree.old s 1 }
     ensures { Parts src.now toks.now left else_on [] a_list s tree.old result tree.new }

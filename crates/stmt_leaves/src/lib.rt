@@ -1,5 +1,7 @@
 // The leaves of the statements' rules (src/parser/mod.rs): the function of each action that writes a statement's node. Their contracts are those of
 // specs/Contract.antt of `leaves`.
+#![tactic(auto)]
+
 mod blocks;
 mod one_line;
 

@@ -1,4 +1,6 @@
 // The text of a String: what stands between its quotes, with its escapes decoded. Port of `process_string_escapes` in raw_token.rs.
+#![tactic(auto)]
+
 ghost use Rattle.std.specs.Prelude.{◌≡◌, ◌+◌, ◌≤◌, length};
 ghost use Rattle.std.proofs.lemmas.List.Edits.{sets};
 ghost use Rattle.strings.specs.Decoded.{unescape, decoded};

@@ -1,5 +1,6 @@
 // The codes of the tokens (src/lexer/token.rs), and three kinds of number that must not be taken for one another.
 // specs/Code.antt has the same codes for the contracts.
+#![tactic(auto)]
 
 pub const IF: u32 = 1;
 
@@ -100,13 +101,13 @@ pub const NEWLINE: u32 = 48;
 pub const EOF: u32 = 49;
 
 // A byte's place in the source.
-#[derive(Drop)]
+#[derive(Clone, Copy)]
 pub struct Place(pub u32);
 
 // A token's number in the token list.
-#[derive(Drop)]
+#[derive(Clone, Copy)]
 pub struct TokenNumber(pub u32);
 
 // A node's number in the tree.
-#[derive(Drop)]
+#[derive(Clone, Copy)]
 pub struct NodeNumber(pub u32);

@@ -2,7 +2,7 @@
 ghost use Rattle.std.specs.Prelude.{◌≡◌, ◌<◌, length};
 ghost use Rattle.utf8.specs.Character.{Decoded};
 
-#[derive(Drop)]
+#[derive(Clone, Copy)]
 pub struct Character {
     pub code: u32,
     pub len: usize,
@@ -14,7 +14,7 @@ fn wide(b: u8) -> u32
     b as u32
 }
 
-// The bits of the well_formed sequence at i, joined; length 0 where there is none.
+// The bits of the well-formed sequence at i, joined; length 0 where there is none.
 pub fn decode(s: &[u8], i: usize) -> Character
     requires { i < length s.now }
     ensures { Decoded s.now i result }

@@ -1,26 +1,28 @@
-// Whether a slice of bytes is well_formed UTF-8 by table 3-7 of the Unicode Standard, or where its first ill_formed sequence begins; and the character at a
+// Whether a slice of bytes is well-formed UTF-8 by table 3-7 of the Unicode Standard, or where its first ill-formed sequence begins; and the character at a
 // place. The look goes in rounds: eight bytes below 128, or one sequence.
+#![tactic(auto)]
+
 ghost use Rattle.std.specs.Prelude.{◌≡◌};
 ghost use Rattle.utf8.specs.Table.{utf8_error_lem, rounds};
 
 pub mod character; // character.rt: the character at a place, decoded
 mod eight; // eight.rt: whether eight bytes below 128 stand at a place
-mod sequence; // sequence.rt: the well_formed sequence at a place
+mod sequence; // sequence.rt: the well-formed sequence at a place
 
-#[derive(Drop)]
+#[derive(Clone, Copy)]
 pub enum Utf8 {
     WellFormed,
     IllFormed(usize),
 }
 
 // What was found, and in how many rounds.
-#[derive(Drop)]
+#[derive(Clone, Copy)]
 pub struct Checked {
     pub found: Utf8,
     pub rounds: usize,
 }
 
-// Well formed, or the first byte of the first ill_formed sequence. A round takes "the next eight bytes if all are under 128, else one sequence, good or bad"
+// Well formed, or the first byte of the first ill-formed sequence. A round takes "the next eight bytes if all are under 128, else one sequence, good or bad"
 // (02, change 2). Where no eight stand, none do at the bytes below 128 up to the next other byte, so these are a round each.
 pub fn utf8_error(s: &[u8]) -> Checked
     ensures found_value { result.found ≡ utf8_error_lem s.now }

@@ -54,7 +54,7 @@ fn longer(s: &[u8], i: usize) -> usize
     0
 }
 
-// The length of the well_formed sequence at i, and 0 where there is none.
+// The length of the well-formed sequence at i, and 0 where there is none.
 pub fn sequence(s: &[u8], i: usize) -> usize
     requires { i < length s.now }
     ensures { result ≡ sequence_length (drop i s.now) }

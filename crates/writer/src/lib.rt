@@ -2,6 +2,8 @@
 //
 // It reads the source by `reader::parse_source`, looks for blocks with no statement, writes the text into the lent slice from the back and moves it to the
 // front. What is lent to the reader is as the reader leaves it.
+#![tactic(auto)]
+
 ghost use Rattle.writer.specs.Writes.{Writes};
 ghost use Rattle.writer.specs.Steps.{Accepted, Rewritten};
 
@@ -10,7 +12,7 @@ use writing::Written;
 mod hollow;
 
 // specs/Answer.antt has the numbers of each case. The reader's own answer is in all of them.
-#[derive(Drop)]
+#[derive(Clone, Copy)]
 pub enum Answer {
     // The text stands in the slice: so many bytes.
     Text(reader::Answer, usize),

@@ -7,6 +7,8 @@
 // A contract asks that some expression stands there (`Some`), and answers for every one that does (`Puts`, `Turns`: specs/Put.antt). `step` takes one turn
 // down the left side of a tree: it writes all of it, or its end, and what is left is again the text of one expression, which starts at the same node. So
 // the functions call one another again only where an E is opened, or a rule further behind is asked for.
+#![tactic(auto)]
+
 ghost use Rattle.std.specs.Prelude.{◌≡◌, ℕ, ◌+◌, ◌≤◌, length};
 ghost use Rattle.token.specs.Code as code;
 ghost use Rattle.ast.specs.Kind as kind;
@@ -27,14 +29,14 @@ use leaf::put_leaf;
 use words::{kind_at, wide, word_at};
 use writing::{put_fixed, put_spaced, put_then_space};
 
-#[derive(Drop)]
+#[derive(Clone, Copy)]
 pub struct Spot {
     pub at: usize,
     pub end: usize,
 }
 
 // What a turn leaves: where `more` is set, an expression that must fit the rule `least` is still to be written.
-#[derive(Drop)]
+#[derive(Clone, Copy)]
 pub struct Turn {
     pub at: usize,
     pub end: usize,
@@ -43,7 +45,7 @@ pub struct Turn {
 }
 
 // Node `end - 1`, with all below it, where a text that fits the rule `least` must stand. Each turn goes one step down the left side.
-#[cycle(parens_put_binary_put_call_put_enclosed_put_expr_put_index_put_inside_put_lambda_put_link_put_list_put_member_put_members_put_pair_put_tuple_put_unary_step)]
+#[cycle(put_expr)]
 pub fn put_expr(
     src: &[u8],
     text: &[u8],
@@ -98,7 +100,7 @@ pub fn put_whole(
 }
 
 // One turn.
-#[cycle(parens_put_binary_put_call_put_enclosed_put_expr_put_index_put_inside_put_lambda_put_link_put_list_put_member_put_members_put_pair_put_tuple_put_unary_step)]
+#[cycle(put_expr)]
 fn step(
     src: &[u8],
     text: &[u8],
@@ -140,7 +142,7 @@ fn step(
 }
 
 // All of it in parentheses.
-#[cycle(parens_put_binary_put_call_put_enclosed_put_expr_put_index_put_inside_put_lambda_put_link_put_list_put_member_put_members_put_pair_put_tuple_put_unary_step)]
+#[cycle(put_expr)]
 fn parens(src: &[u8], text: &[u8], tree: &[u32], out: &mut [u8], at: usize, end: usize) -> Turn
     requires some { Some src.now text.now tree.now end }
     requires at_in_bounds { at ≤ length out.old + 1 }
@@ -159,7 +161,7 @@ fn parens(src: &[u8], text: &[u8], tree: &[u32], out: &mut [u8], at: usize, end:
 }
 
 // An operator and what stands at its right, which must fit the next rule.
-#[cycle(parens_put_binary_put_call_put_enclosed_put_expr_put_index_put_inside_put_lambda_put_link_put_list_put_member_put_members_put_pair_put_tuple_put_unary_step)]
+#[cycle(put_expr)]
 fn put_binary(src: &[u8], text: &[u8], tree: &[u32], out: &mut [u8], at: usize, end: usize) -> Turn
     requires some { Some src.now text.now tree.now end }
     requires at_in_bounds { (at ≤ length out.old + 1) × Formed tree.now end binary }
@@ -179,7 +181,7 @@ fn put_binary(src: &[u8], text: &[u8], tree: &[u32], out: &mut [u8], at: usize, 
 }
 
 // The last comparison of a chain; what is left is the chain before it.
-#[cycle(parens_put_binary_put_call_put_enclosed_put_expr_put_index_put_inside_put_lambda_put_link_put_list_put_member_put_members_put_pair_put_tuple_put_unary_step)]
+#[cycle(put_expr)]
 fn put_link(src: &[u8], text: &[u8], tree: &[u32], out: &mut [u8], at: usize, end: usize) -> Turn
     requires some { Some src.now text.now tree.now end }
     requires at_in_bounds { (at ≤ length out.old + 1) × Linked tree.now end }
@@ -199,7 +201,7 @@ fn put_link(src: &[u8], text: &[u8], tree: &[u32], out: &mut [u8], at: usize, en
 }
 
 // Signs: the operand below them first, and then each sign before it.
-#[cycle(parens_put_binary_put_call_put_enclosed_put_expr_put_index_put_inside_put_lambda_put_link_put_list_put_member_put_members_put_pair_put_tuple_put_unary_step)]
+#[cycle(put_expr)]
 fn put_unary(src: &[u8], text: &[u8], tree: &[u32], out: &mut [u8], at: usize, end: usize) -> Turn
     requires some { Some src.now text.now tree.now end }
     requires at_in_bounds { (at ≤ length out.old + 1) × (kind_at tree.now end ≡ kind.Unary) }
@@ -218,7 +220,7 @@ fn put_unary(src: &[u8], text: &[u8], tree: &[u32], out: &mut [u8], at: usize, e
 }
 
 // The arguments of a call in their parentheses; what is called is left.
-#[cycle(parens_put_binary_put_call_put_enclosed_put_expr_put_index_put_inside_put_lambda_put_link_put_list_put_member_put_members_put_pair_put_tuple_put_unary_step)]
+#[cycle(put_expr)]
 fn put_call(src: &[u8], text: &[u8], tree: &[u32], out: &mut [u8], at: usize, end: usize) -> Turn
     requires some { Some src.now text.now tree.now end }
     requires at_in_bounds { (at ≤ length out.old + 1) × Formed tree.now end call }
@@ -263,7 +265,7 @@ fn put_attribute(
 }
 
 // An index in its brackets; what is indexed is left.
-#[cycle(parens_put_binary_put_call_put_enclosed_put_expr_put_index_put_inside_put_lambda_put_link_put_list_put_member_put_members_put_pair_put_tuple_put_unary_step)]
+#[cycle(put_expr)]
 fn put_index(src: &[u8], text: &[u8], tree: &[u32], out: &mut [u8], at: usize, end: usize) -> Turn
     requires some { Some src.now text.now tree.now end }
     requires at_in_bounds { (at ≤ length out.old + 1) × Formed tree.now end index }
@@ -282,7 +284,7 @@ fn put_index(src: &[u8], text: &[u8], tree: &[u32], out: &mut [u8], at: usize, e
 }
 
 // A lambda: its body, its names, and the word.
-#[cycle(parens_put_binary_put_call_put_enclosed_put_expr_put_index_put_inside_put_lambda_put_link_put_list_put_member_put_members_put_pair_put_tuple_put_unary_step)]
+#[cycle(put_expr)]
 fn put_lambda(src: &[u8], text: &[u8], tree: &[u32], out: &mut [u8], at: usize, end: usize) -> Turn
     requires some { Some src.now text.now tree.now end }
     requires at_in_bounds { (at ≤ length out.old + 1) × Formed tree.now end lambda }
@@ -305,7 +307,7 @@ fn put_lambda(src: &[u8], text: &[u8], tree: &[u32], out: &mut [u8], at: usize, 
 }
 
 // A tuple in its parentheses.
-#[cycle(parens_put_binary_put_call_put_enclosed_put_expr_put_index_put_inside_put_lambda_put_link_put_list_put_member_put_members_put_pair_put_tuple_put_unary_step)]
+#[cycle(put_expr)]
 fn put_tuple(src: &[u8], text: &[u8], tree: &[u32], out: &mut [u8], at: usize, end: usize) -> Turn
     requires some { Some src.now text.now tree.now end }
     requires at_in_bounds { (at ≤ length out.old + 1) × (kind_at tree.now end ≡ kind.Tuple) }
@@ -332,7 +334,7 @@ fn put_tuple(src: &[u8], text: &[u8], tree: &[u32], out: &mut [u8], at: usize, e
 }
 
 // The members of a tuple that is not empty, and the comma of a tuple of one.
-#[cycle(parens_put_binary_put_call_put_enclosed_put_expr_put_index_put_inside_put_lambda_put_link_put_list_put_member_put_members_put_pair_put_tuple_put_unary_step)]
+#[cycle(put_expr)]
 fn put_inside(src: &[u8], text: &[u8], tree: &[u32], out: &mut [u8], at: usize, end: usize) -> Spot
     requires some { Some src.now text.now tree.now end }
     requires at_in_bounds { (at ≤ length out.old + 1) × (kind_at tree.now end ≡ kind.Tuple) × (word_at tree.now end 4 ≡ none → ⊥) }
@@ -345,7 +347,7 @@ fn put_inside(src: &[u8], text: &[u8], tree: &[u32], out: &mut [u8], at: usize, 
 }
 
 // A List, Dict, Set or TreeSet.
-#[cycle(parens_put_binary_put_call_put_enclosed_put_expr_put_index_put_inside_put_lambda_put_link_put_list_put_member_put_members_put_pair_put_tuple_put_unary_step)]
+#[cycle(put_expr)]
 fn put_enclosed(
     src: &[u8],
     text: &[u8],
@@ -373,7 +375,7 @@ fn put_enclosed(
 }
 
 // A list by its first node or none, the last member of which is node `end - 1`. Members are expressions, pairs, or names, of a lambda and of a Def or Method.
-#[cycle(parens_put_binary_put_call_put_enclosed_put_expr_put_index_put_inside_put_lambda_put_link_put_list_put_member_put_members_put_pair_put_tuple_put_unary_step)]
+#[cycle(put_expr)]
 pub fn put_list(
     src: &[u8],
     text: &[u8],
@@ -394,7 +396,7 @@ pub fn put_list(
 }
 
 // The members from the node `first` on, the last one first.
-#[cycle(parens_put_binary_put_call_put_enclosed_put_expr_put_index_put_inside_put_lambda_put_link_put_list_put_member_put_members_put_pair_put_tuple_put_unary_step)]
+#[cycle(put_expr)]
 fn put_members(
     src: &[u8],
     text: &[u8],
@@ -426,7 +428,7 @@ fn put_members(
 }
 
 // A name, a pair or an expression.
-#[cycle(parens_put_binary_put_call_put_enclosed_put_expr_put_index_put_inside_put_lambda_put_link_put_list_put_member_put_members_put_pair_put_tuple_put_unary_step)]
+#[cycle(put_expr)]
 fn put_member(src: &[u8], text: &[u8], tree: &[u32], out: &mut [u8], at: usize, end: usize) -> Spot
     requires some_member { SomeMember src.now text.now tree.now end }
     requires at_in_bounds { at ≤ length out.old + 1 }
@@ -446,7 +448,7 @@ fn put_member(src: &[u8], text: &[u8], tree: &[u32], out: &mut [u8], at: usize, 
 }
 
 // A pair of a Dict.
-#[cycle(parens_put_binary_put_call_put_enclosed_put_expr_put_index_put_inside_put_lambda_put_link_put_list_put_member_put_members_put_pair_put_tuple_put_unary_step)]
+#[cycle(put_expr)]
 fn put_pair(src: &[u8], text: &[u8], tree: &[u32], out: &mut [u8], at: usize, end: usize) -> Spot
     requires some_member { SomeMember src.now text.now tree.now end }
     requires at_in_bounds { (at ≤ length out.old + 1) × (kind_at tree.now end ≡ kind.Pair) }

@@ -2,6 +2,8 @@
 //
 // Lists of statements, elifs and methods are loops from their last member to their first, so the functions call one another again only where a block is
 // opened. `depth` is how many are open.
+#![tactic(auto)]
+
 ghost use Rattle.std.specs.Prelude.{◌+◌, ◌≤◌, ◌≡◌, length};
 ghost use Rattle.ast.specs.Kind as kind;
 ghost use Rattle.ast.specs.Node.{none};
@@ -32,7 +34,7 @@ pub fn put_program(
 }
 
 // A list by its first node or none, the last member of which is node `end - 1`.
-#[cycle(put_else_put_if_put_line_put_lines)]
+#[cycle(put_lines)]
 pub fn put_lines(
     src: &[u8],
     text: &[u8],
@@ -68,7 +70,7 @@ pub fn put_lines(
 }
 
 // A statement, an Elif, a Method or an Else: node `end - 1`, with all below it.
-#[cycle(put_else_put_if_put_line_put_lines)]
+#[cycle(put_lines)]
 fn put_line(
     src: &[u8],
     text: &[u8],
@@ -96,7 +98,7 @@ fn put_line(
 }
 
 // The Else, the Elifs, the block, and the line before them.
-#[cycle(put_else_put_if_put_line_put_lines)]
+#[cycle(put_lines)]
 fn put_if(
     src: &[u8],
     text: &[u8],
@@ -120,7 +122,7 @@ fn put_if(
 }
 
 // The Else of an If, or none.
-#[cycle(put_else_put_if_put_line_put_lines)]
+#[cycle(put_lines)]
 fn put_else(
     src: &[u8],
     text: &[u8],

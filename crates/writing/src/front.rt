@@ -7,7 +7,7 @@ ghost use Rattle.writing.specs.Written.{room, Gives};
 const LONGEST: usize = 65536;
 
 // So many bytes of text, or no room for it.
-#[derive(Drop)]
+#[derive(Clone, Copy)]
 pub enum Written {
     Text(usize),
     Full,

@@ -3,6 +3,8 @@
 // A writer puts its bytes before `at`, which is one more than the place of the byte written last, and answers the new `at`: 0 once there was no room, and
 // then for ever. `Wrote` (specs/Wrote.antt) is the contract of each. Whoever writes a text starts at `room(n) + 1` for a slice of n bytes, writes the end of
 // the text first, and ends with `to_front`.
+#![tactic(auto)]
+
 mod back;
 mod fixed;
 mod front;

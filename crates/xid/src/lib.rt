@@ -1,4 +1,6 @@
 // Whether a code point may begin a name, or continue one: the classes XID_Start and XID_Continue of Unicode (UAX #31), by a search in their ranges.
+#![tactic(auto)]
+
 ghost use Rattle.std.specs.Prelude.{◌≡◌, ◌*◌, ◌<◌, length};
 ghost use Rattle.xid.specs.Row.{bounds, frequent};
 ghost use Rattle.xid.specs.Ranges.{holds, row_of};
@@ -10,7 +12,7 @@ mod start; // start.rt: the rows of XID_Start
 
 use row::Row;
 
-#[derive(Drop)]
+#[derive(Clone, Copy)]
 enum Class {
     Start,
     Continuation,

@@ -3,7 +3,7 @@ ghost use Rattle.std.specs.Prelude.{◌≡◌};
 ghost use Rattle.xid.specs.Row.{bounds};
 ghost use Rattle.xid.specs.Ranges.{holds};
 
-#[derive(Drop)]
+#[derive(Clone, Copy)]
 pub(crate) struct Row(pub u32, pub u32, pub u32, pub u32, pub u32, pub u32);
 
 // Whether one of them holds c.
