@@ -23,7 +23,7 @@ empty : says [] ≡ filled (C.Eof ∷ 0 ∷ 0 ∷ []) []
 unfolding says
 empty = refl
 
--- "So `a_1` is a name, then Int -1"
+-- "So `a-1` is a name, then Int -1"
 name_then_int : says (bytes "a-1") ≡ filled (C.Identifier ∷ 0 ∷ 1 ∷ C.Int ∷ 1 ∷ 3 ∷ C.Eof ∷ 3 ∷ 3 ∷ []) []
 unfolding says
 name_then_int = refl

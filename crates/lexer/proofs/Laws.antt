@@ -207,12 +207,12 @@ has_float code l used v e h = go (decimal_of l) (sym (value_float code l used e)
     go (D.Value x) k = (x, cc)
     go D.NotAdmitted k = let z : ◌≡◌ {A = ℕ} 0 1 = cc in absurd (omega arith)
 
-floats_coded : {s text : List ℕ} {used : ℕ} {ts : List Token} {bs : List ℕ} → Valued s used ts bs → Each (InText s text) ts → Each (FloatCoded s) ts
-floats_coded Valued.none none = none
-floats_coded {s} {text} (Valued.more {used} {t} v h) (more i is) =
+floats_coded : {s : List ℕ} (text : List ℕ) {used : ℕ} {ts : List Token} {bs : List ℕ} → Valued s used ts bs → Each (InText s text) ts → Each (FloatCoded s) ts
+floats_coded text Valued.none none = none
+floats_coded {s} text (Valued.more {used} {t} v h) (more i is) =
     more
     (record { of = λ x e. subst (Held text t.code (bytes_of s t)) e i; has = λ e. has_float t.code (bytes_of s t) used t.literal e v })
-    (floats_coded h is)
+    (floats_coded text h is)
 
 -- ---- the laws of the token list
 
@@ -249,4 +249,4 @@ module _ (s : List ℕ) (ts : List Token) (bs : List ℕ) (e : token_list s ≡ 
   tokens_held = literals_held [] refl tokens
 
   pub tokens_floats : Each (FloatCoded s) ts
-  tokens_floats = floats_coded tokens_valued tokens_held
+  tokens_floats = floats_coded bs tokens_valued tokens_held

@@ -2,7 +2,7 @@
 -- Assumes nothing.
 use mathlib.Core.Path.{◌≡◌, refl, subst}
 use mathlib.Core.Bool.{Bool, true, false, cond, ◌||◌}
-use mathlib.Core.List.{List, []}
+use mathlib.Core.List.{List, [], ◌∷◌}
 use Prim.Native.Nat.{ℕ, zero, suc, ◌+◌, ◌-◌, ◌%◌, ◌<◌, ◌≤◌}
 use native.Mathlib.Decide.{ℕ_discrete, dec_lt}
 use native.Mathlib.Omega.{arith}
@@ -11,7 +11,7 @@ use lib.ListN.{length, get_or}
 use borrow.Author.Tests.{ltb-true}
 use Rattle.source.specs.Bytes.{part}
 use Rattle.token.specs.Code as Code
-use Rattle.tokens.specs.Token.{Token}
+use Rattle.tokens.specs.Token.{Token, token}
 use Rattle.literal.specs.declared.Lexed.{Lexed}
 use Rattle.literal.specs.declared.Lexed.TheVariants.{Value, Refused}
 use Rattle.raw_token.specs.Table.{token_at_lem}
@@ -100,7 +100,7 @@ module _ (s : List ℕ) (x : Lexer) (reached : Reached (length s) x) (rest : Res
       by_value : (code end : ℕ) (bs : List ℕ) (v : Lexed) → start < end → end ≤ length s → Sound (length s) (value_then rest x code start end bs v)
       by_value code end bs (Value v) a b =
           let y = lexer end (eqb code Code.Newline || x.flag) x.top (x.count + 1) (x.used + length bs) in
-          sound_prepend (length s) _ bs (rest y) (h y (omega (arith, gap_from s x.at)) (b, reached.1))
+          sound_prepend (length s) (token code start end v ∷ []) bs (rest y) (h y (omega (arith, gap_from s x.at)) (b, reached.1))
       by_value code end bs Refused a b = number_sound (eqb code Code.Int)
         where
           number_sound : (t : Bool) → Refuses (length s) (cond t 10 11) start

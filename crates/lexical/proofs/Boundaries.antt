@@ -1,4 +1,4 @@
--- Where characters begin in a well_formed source: at each byte that is not 10xxxxxx, so wherever a token that the table finds starts.
+-- Where characters begin in a well-formed source: at each byte that is not 10xxxxxx, so wherever a token that the table finds starts.
 -- Assumes nothing.
 use mathlib.Core.Path.{◌≡◌, refl, sym, ap, ◌∙◌}
 use mathlib.Core.Bool.{true, false, true≢false}

@@ -1,4 +1,4 @@
--- The characters of a well_formed list of bytes are characters with its bytes, and the only such; and bytes of characters are well_formed.
+-- The characters of a well-formed list of bytes are characters with its bytes, and the only such; and bytes of characters are well-formed.
 -- Assumes nothing.
 use mathlib.Core.Path.{◌≡◌, refl, sym, ap}
 use mathlib.Core.Bool.{Bool, true, false, cond, ◌&&◌, ◌||◌, true≢false}
@@ -112,7 +112,7 @@ at_front c l e = front_of rows rows_apart c l e
 pub not_empty : is_character [] ≡ true → ⊥
 not_empty e = no_empty rows rows_apart e
 
--- ---- a well_formed list is its characters
+-- ---- a well-formed list is its characters
 
 cut_whole : (fuel i : ℕ) (l : List ℕ) → length l ≤ fuel → first_ill_formed fuel i l ≡ WellFormed → (are_characters (cut fuel l) ≡ true) × (bytes_of (cut fuel l) ≡ l)
 unfolding first_ill_formed sequence_length cut
@@ -131,12 +131,12 @@ cut_whole (suc fuel) i (b ∷ l) h e =
         let x = r (suc n) (omega arith) w in
         (rw (c (omega arith)) x.0, rw x.1 (take-append-drop (suc n) (b ∷ l)))
 
--- the characters of a well_formed list are characters, with its bytes
+-- the characters of a well-formed list are characters, with its bytes
 pub whole : (l : List ℕ) → utf8_error_lem l ≡ WellFormed → (are_characters (characters l) ≡ true) × (bytes_of (characters l) ≡ l)
 unfolding utf8_error_lem characters
 whole l e = cut_whole (length l) 0 l (omega arith) e
 
--- ---- bytes of characters are well_formed, and have no other characters
+-- ---- bytes of characters are well-formed, and have no other characters
 
 cut_only : (fuel : ℕ) (cs : List (List ℕ)) → are_characters cs ≡ true → length (bytes_of cs) ≤ fuel → cut fuel (bytes_of cs) ≡ cs
 unfolding cut

@@ -1,4 +1,4 @@
--- Where tokens end in a well_formed source: between characters. A name is whole characters from its start on; any other token ends with a byte under
+-- Where tokens end in a well-formed source: between characters. A name is whole characters from its start on; any other token ends with a byte under
 -- 128, which is a character by itself.
 -- Assumes nothing.
 use mathlib.Core.Path.{◌≡◌, refl, sym, ap, ◌∙◌}
@@ -25,7 +25,7 @@ use Rattle.lexical.proofs.Patterns.{filled, finds}
 
 -- ---- a place between characters
 
--- behind a well_formed list that stands there
+-- behind a well-formed list that stands there
 pub passed : (s : List ℕ) (at n : ℕ) → Between s at → utf8_error_lem (take n (drop at s)) ≡ WellFormed → Between s (at + n)
 passed s at n b w =
     let e : take n (drop at s) ++ drop (at + n) s ≡ drop at s = rw (← drop-drop n at s) (take-append-drop n (drop at s)) in
@@ -92,7 +92,7 @@ name_well : {w : List ℕ} → Name w → utf8_error_lem w ≡ WellFormed
 name_well (joined {u = u} (character i h) absent) = rw (append-nil u) (character_well u i)
 name_well (joined {u = u} {v = v} (character i h) (present r)) = both_well u v (character_well u i) (some_well continues_name r)
 
--- so a word has a last byte under 128, or is well_formed
+-- so a word has a last byte under 128, or is well-formed
 data Ends (w : List ℕ) : Type 0 where
   by_low : Low w → Ends w
   by_characters : utf8_error_lem w ≡ WellFormed → Ends w
@@ -140,6 +140,6 @@ module _ (s : List ℕ) (at code end : ℕ) (w : utf8_error_lem s ≡ WellFormed
           let d : ((take at s ++ x.front) ++ x.final ∷ drop (at + n) s) ≡ s = sym (append_assoc (take at s ++ x.front) (x.final ∷ []) (drop (at + n) s)) ∙ ap (λ (l : List ℕ). l ++ drop (at + n) s) (sym e) ∙ take-append-drop (at + n) s in
           rw e (behind_low (take at s ++ x.front) x.final (drop (at + n) s) x.low (rw d w))
 
--- any token that the table finds in a well_formed source ends between characters
+-- any token that the table finds in a well-formed source ends between characters
 pub token_ends : (s : List ℕ) (at code end : ℕ) → utf8_error_lem s ≡ WellFormed → token_at_lem s at ≡ Found code end → Between s end
 token_ends s at code end w f = ends_at s at code end w f (token_starts s at code end w f)

@@ -1,4 +1,4 @@
--- In a well_formed source the scanner stands between characters wherever a token would start, so 9 stands at the first byte of a character: "Another
+-- In a well-formed source the scanner stands between characters wherever a token would start, so 9 stands at the first byte of a character: "Another
 -- character over 127 where a token would start gets 9" (02, change 1).
 -- Assumes nothing.
 use mathlib.Core.Path.{◌≡◌, refl, subst}
@@ -14,7 +14,7 @@ use borrow.Author.Tests.{eqb-true, ltb-true}
 use Rattle.source.specs.Bytes.{part, run}
 use Rattle.source.proofs.Bools.{or_either}
 use Rattle.token.specs.Code as Code
-use Rattle.tokens.specs.Token.{Token}
+use Rattle.tokens.specs.Token.{Token, token}
 use Rattle.utf8.specs.Table.{first_ill_formed, utf8_error_lem}
 use Rattle.utf8.specs.declared.Utf8.TheVariants.{WellFormed}
 use Rattle.literal.specs.declared.Lexed.{Lexed}
@@ -158,7 +158,7 @@ module _ (s : List ℕ) (w : utf8_error_lem s ≡ WellFormed) (rest : Rest) (h :
       by_value : (code end : ℕ) (bs : List ℕ) (v : Lexed) → Between s end → Nine s (value_then rest x code start end bs v)
       by_value code end bs (Value v) k =
           let y = lexer end (eqb code Code.Newline || x.flag) x.top (x.count + 1) (x.used + length bs) in
-          nine_prepend s _ bs (rest y) (h y k)
+          nine_prepend s (token code start end v ∷ []) bs (rest y) (h y k)
       by_value code end bs Refused k = other (eqb code Code.Int)
         where
           other : (t : Bool) → Nine s (refused (cond t 10 11) start)

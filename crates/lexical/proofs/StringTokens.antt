@@ -1,4 +1,4 @@
--- A String of a well_formed source begins and ends between characters, wherever it stands, since it begins with a quote, which is a byte under
+-- A String of a well-formed source begins and ends between characters, wherever it stands, since it begins with a quote, which is a byte under
 -- 128. So it is as document 01 has it by characters.
 -- Assumes nothing.
 use mathlib.Core.Path.{◌≡◌, refl, sym, ap, ◌∙◌}

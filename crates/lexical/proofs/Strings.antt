@@ -153,7 +153,7 @@ pub decoded_is : (cs : List (List ℕ)) → are_characters cs ≡ true → decod
 unfolding D.decoded
 decoded_is cs e = decoded_from cs e
 
--- the same of a well_formed list of bytes and its characters
+-- the same of a well-formed list of bytes and its characters
 module _ (l : List ℕ) (w : utf8_error_lem l ≡ WellFormed) where
   pub string_of : P.string l ≡ string (characters l)
   string_of = let x = whole l w in ap P.string (sym x.1) ∙ sym (string_is (characters l) x.0)

@@ -33,7 +33,7 @@ are_left a b e = and_left (are_characters a) (are_characters b) (sym (are_append
 pub are_right : (a b : List (List ℕ)) → are_characters (a ++ b) ≡ true → are_characters b ≡ true
 are_right a b e = and_right (are_characters a) (are_characters b) (sym (are_append a b) ∙ e)
 
--- ---- well_formed lists one behind the other
+-- ---- well-formed lists one behind the other
 
 pub both_well : (a b : List ℕ) → utf8_error_lem a ≡ WellFormed → utf8_error_lem b ≡ WellFormed → utf8_error_lem (a ++ b) ≡ WellFormed
 both_well a b w v =
@@ -42,7 +42,7 @@ both_well a b w v =
     let e : bytes_of (characters a ++ characters b) ≡ a ++ b = rw (bytes_append (characters a) (characters b), x.1, y.1) in
     rw (← e) (well (characters a ++ characters b) (are_append (characters a) (characters b) ∙ rw (x.0, y.0)))
 
--- what follows a character in a well_formed list is well_formed
+-- what follows a character in a well-formed list is well-formed
 behind_character : (c r : List ℕ) → is_character c ≡ true → utf8_error_lem (c ++ r) ≡ WellFormed → utf8_error_lem r ≡ WellFormed
 unfolding characters cut
 behind_character [] r i w = absurd (not_empty i)
@@ -59,7 +59,7 @@ behind_characters (c ∷ cs) r e w =
     behind_characters cs r (and_right (is_character c) (are_characters cs) e)
     (behind_character c (bytes_of cs ++ r) (and_left (is_character c) (are_characters cs) e) (rw (append_assoc c (bytes_of cs) r) at w))
 
--- and what follows a well_formed list in one
+-- and what follows a well-formed list in one
 pub behind_well : (a r : List ℕ) → utf8_error_lem a ≡ WellFormed → utf8_error_lem (a ++ r) ≡ WellFormed → utf8_error_lem r ≡ WellFormed
 behind_well a r w v = let x = whole a w in behind_characters (characters a) r x.0 (rw x.1 v)
 
@@ -121,6 +121,6 @@ characters_bytes [] e = refl
 characters_bytes (c ∷ cs) e =
     bytes_both c (bytes_of cs) (of_bytes rows c rows_bytes (and_left (is_character c) (are_characters cs) e)) (characters_bytes cs (and_right (is_character c) (are_characters cs) e))
 
--- a byte of a well_formed list is under 256
+-- a byte of a well-formed list is under 256
 pub byte_below : (l : List ℕ) (i : ℕ) → utf8_error_lem l ≡ WellFormed → get_or l i 0 < 256
 byte_below l i w = let x = whole l w in bytes-at l i (rw x.1 at (characters_bytes (characters l) x.0))

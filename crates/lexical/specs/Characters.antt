@@ -1,4 +1,4 @@
--- The characters of a source: its well_formed UTF-8 sequences (The Unicode Standard, table 3-7), each the list of its bytes.
+-- The characters of a source: its well-formed UTF-8 sequences (The Unicode Standard, table 3-7), each the list of its bytes.
 -- Assumes nothing.
 use Rattle.std.specs.Prelude.{ℕ, zero, suc, Bool, true, false, ◌&&◌, ◌||◌, List, [], ◌∷◌, ◌++◌, eqb, length, take, drop}
 use Rattle.utf8.specs.Table.{Row, rows, fits, sequence_length}
@@ -8,7 +8,7 @@ abbrev pub is_of : List Row → List ℕ → Bool
 is_of [] c = false
 is_of (row ∷ more) c = (fits row c && eqb (length row) (length c)) || is_of more c
 
--- a character: one well_formed sequence
+-- a character: one well-formed sequence
 abbrev pub is_character : List ℕ → Bool
 is_character c = is_of rows c
 
@@ -27,7 +27,7 @@ cut zero l = []
 cut (suc fuel) [] = []
 cut (suc fuel) (b ∷ l) = take (sequence_length (b ∷ l)) (b ∷ l) ∷ cut fuel (drop (sequence_length (b ∷ l)) (b ∷ l))
 
--- the characters of a well_formed list of bytes. That they are characters with its bytes, and that no others have them, is shown in
+-- the characters of a well-formed list of bytes. That they are characters with its bytes, and that no others have them, is shown in
 -- proofs/Characters.antt (`whole`, `only`)
 unfoldable pub characters : List ℕ → List (List ℕ)
 characters l = cut (length l) l

@@ -15,7 +15,7 @@ pub record Front (p : Pattern) (l w : List ℕ) : Type 0 where
   pub rest : List ℕ
   pub is : l ≡ w ++ rest
 
--- the bytes from `at` up to `end` are a word of an entry with the code; no word of an entry there is longer (`List.Memᴰ e es`: e is one of es);
+-- the bytes from `at` up to `end` are a word of an entry with the code; no word of an entry there is longer (`Memᴰ e es`: e is one of es);
 -- and each of the entries before has only shorter ones
 pub record Longest (s : List ℕ) (at code end : ℕ) : Type 0 where
   pub some : at < end

@@ -16,7 +16,7 @@ Words = List ℕ → Type 0
 pub data Byte (c : ℕ → Bool) : List ℕ → Type 0 where
   byte : (b : ℕ) → c b ≡ true → Byte c (b ∷ [])
 
--- one character of a class: a well_formed sequence (table 3-7) whose code point is of the class
+-- one character of a class: a well-formed sequence (table 3-7) whose code point is of the class
 pub data Character (c : ℕ → Bool) : List ℕ → Type 0 where
   character : {w : List ℕ} → is_character w ≡ true → c (code_point w) ≡ true → Character c w
 

@@ -1,6 +1,6 @@
 -- A String by characters, as document 01 has it (Raw tokens): "String: same quote at both ends, line feeds allowed, a backslash with any
 -- character but a line feed. Escapes n t r \ " ' are decoded; another keeps its backslash." The scanner's definitions go by bytes: `string` of
--- raw_token and `decoded` of strings. That both come to the same in well_formed UTF-8 is shown in proofs/Strings.antt (`string_is`,
+-- raw_token and `decoded` of strings. That both come to the same in well-formed UTF-8 is shown in proofs/Strings.antt (`string_is`,
 -- `decoded_is`).
 -- Assumes nothing.
 use Rattle.std.specs.Prelude.{ℕ, ◌+◌, ◌≡◌, Bool, false, cond, List, [], ◌∷◌, ◌++◌, eqb, length, take, drop}

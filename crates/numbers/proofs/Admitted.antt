@@ -1,7 +1,7 @@
 -- What is admitted and what is not, and that digits that stop at a cap change neither: they are not admitted, as with all of them.
 -- Assumes nothing.
 use mathlib.Core.Path.{◌≡◌, sym, ap, ◌∙◌}
-use mathlib.Core.Bool.{Bool, true, false, and_false}
+use mathlib.Core.Bool.{Bool, true, false, and-false}
 use mathlib.Core.List.{List, []}
 use Prim.Native.Nat.{ℕ, ◌+◌, ◌-◌, ◌^◌, ◌≤◌, ◌<◌, min}
 use native.Mathlib.Decide.{dec_le}
@@ -26,10 +26,10 @@ big m (Times k) h = simp (lt-leb m 9007199254740992 h)
 big m (Over k) h = simp (lt-leb m 9007199254740992 h)
 
 pub far_times : (m k : ℕ) → 22 < k → NotAdmitted ≡ value_of m (Times k)
-far_times m k h = simp (lt-leb k 22 h, and_false)
+far_times m k h = simp (lt-leb k 22 h, and-false)
 
 pub far_over : (m k : ℕ) → 22 < k → NotAdmitted ≡ value_of m (Over k)
-far_over m k h = simp (lt-leb k 22 h, and_false)
+far_over m k h = simp (lt-leb k 22 h, and-false)
 
 module _ (m k : ℕ) (t : Float) (h : m ≤ 9007199254740992) (l : k ≤ 22) (e : t ≡ whole (10 ^ k)) where
   pub times : Value (mul binary64 (whole m) t) ≡ value_of m (Times k)

@@ -34,7 +34,7 @@ no_exponent : (says (bytes "1.5e") 0 ≡ Found Float 3) × (says (bytes "1.5e+")
 unfolding says
 no_exponent = (refl, refl)
 
--- "So `a_1` is a name, then Int -1" (01)
+-- "So `a-1` is a name, then Int -1" (01)
 name_then_int : (says (bytes "a-1") 0 ≡ Found Identifier 1) × (says (bytes "a-1") 1 ≡ Found Int 3)
 unfolding says
 name_then_int = (refl, refl)

@@ -41,7 +41,7 @@ abbrev pub one : (ℕ → Bool) → List ℕ → ℕ
 one p [] = 0
 one p (b ∷ l) = cond (p b) 1 0
 
--- one character of a class: the bytes of the well_formed sequence at the front, where its code point is of the class. Where no such sequence begins, 0
+-- one character of a class: the bytes of the well-formed sequence at the front, where its code point is of the class. Where no such sequence begins, 0
 abbrev pub character : (ℕ → Bool) → List ℕ → ℕ
 character p l = cond (p (first_code l)) (sequence_length l) 0
 
@@ -99,7 +99,7 @@ float = and_maybe (seq (run digit) fraction) exponent
 
 -- What follows an opening quote q, up to and with the closing one: "same quote at both ends, line feeds allowed, a backslash with any character
 -- but a line feed". `escaped` says that the byte before is a backslash that is not escaped itself. Of an escaped character over 127 its first
--- byte is the escaped one, and the others are plain, being neither a quote nor a backslash: in well_formed UTF-8 the length is that by characters
+-- byte is the escaped one, and the others are plain, being neither a quote nor a backslash: in well-formed UTF-8 the length is that by characters
 -- (`string_is`, lexical/proofs/Strings.antt)
 abbrev pub body : ℕ → Bool → List ℕ → ℕ
 body q escaped [] = 0

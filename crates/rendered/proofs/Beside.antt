@@ -1,7 +1,7 @@
 -- Pieces side by side: what may stand behind any lexeme, for a writer to have `fits`.
 -- Assumes nothing.
 use mathlib.Core.Path.{◌≡◌, refl, sym, ap, ◌∙◌}
-use mathlib.Core.Bool.{Bool, true, false, not, ◌&&◌, ◌||◌, true≢false, or_true}
+use mathlib.Core.Bool.{Bool, true, false, not, ◌&&◌, ◌||◌, true≢false, or-true}
 use mathlib.Core.List.{List, [], ◌∷◌, ◌++◌}
 use Prim.Native.Nat.{ℕ, ◌+◌, ◌-◌, ◌<◌}
 use native.Mathlib.Omega.{arith}
@@ -26,7 +26,7 @@ use Rattle.rendered.specs.Spelled.{spelled_fixed}
 use Rattle.rendered.proofs.Apart.{within_digit}
 
 pub parted_apart : (w r : List ℕ) → apart r ≡ true → parted w r ≡ true
-parted_apart w r e = rw e (or_true (sealed (get_or w 0 0) || is_quote (get_or w 0 0)))
+parted_apart w r e = rw e (or-true (sealed (get_or w 0 0) || is_quote (get_or w 0 0)))
 
 -- a byte that goes on in no token, as a space, a line feed, a bracket, a comma, a colon: of such a byte the test computes
 pub apart_byte : (b : ℕ) (r : List ℕ) → (inner b || (is_sign_lem b || is_dot b)) ≡ false → apart (b ∷ r) ≡ true

@@ -87,7 +87,7 @@ around : (counts (0x61 ∷ 0x61 ∷ 0x61 ∷ 0x61 ∷ 0x61 ∷ 0x61 ∷ 0x61 ∷
 unfolding counts
 around = (refl, refl, refl)
 
--- an ill_formed sequence is a round, and the last; 128 as the eighth byte
+-- an ill-formed sequence is a round, and the last; 128 as the eighth byte
 bad_rounds : (counts (0xFF ∷ bytes "if abc:\n") ≡ 1) × (counts (0x61 ∷ 0xE2 ∷ 0x82 ∷ []) ≡ 2) × (counts (0x61 ∷ 0x61 ∷ 0x61 ∷ 0x61 ∷ 0x61 ∷ 0x61 ∷ 0x61 ∷ 0x80 ∷ []) ≡ 8)
 unfolding counts
 bad_rounds = (refl, refl, refl)

@@ -130,7 +130,7 @@ module _ (s : List ℕ) (i r : ℕ) (kept : Kept s i r) where
           count = omega (arith, kept.count, next_round s i n h is_taken z);
         }
 
-    -- an ill_formed one
+    -- an ill-formed one
     pub stopped : n ≡ 0 → (IllFormed i ≡ utf8_error_lem s) × (r + 1 ≡ rounds s)
     stopped z = (sym (kept.error ∙ ill_formed_here s i n h is_n z), omega (arith, kept.count, last_round s i n h is_taken z))
 

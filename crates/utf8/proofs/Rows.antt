@@ -1,4 +1,4 @@
--- The well_formed sequence at a place, by its first byte: only the row that the byte is in counts.
+-- The well-formed sequence at a place, by its first byte: only the row that the byte is in counts.
 -- Assumes nothing.
 use mathlib.Core.Path.{◌≡◌, refl, sym, ap, ◌∙◌}
 use mathlib.Core.Bool.{Bool, true, false, cond, ◌&&◌, true≢false}

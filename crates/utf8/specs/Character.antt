@@ -1,4 +1,4 @@
--- The character at a place: the well_formed sequence there and its code point (The Unicode Standard, chapter 3, table 3-6 "UTF-8 Bit Distribution").
+-- The character at a place: the well-formed sequence there and its code point (The Unicode Standard, chapter 3, table 3-6 "UTF-8 Bit Distribution").
 -- Assumes nothing.
 use Rattle.std.specs.Prelude.{ℕ, ◌+◌, ◌*◌, ◌-◌, ◌%◌, ◌≤◌, ◌≡◌, List, [], ◌∷◌, length, take, drop}
 use Rattle.utf8.specs.Table.{sequence_length}
@@ -17,7 +17,7 @@ code_point (a ∷ b ∷ d ∷ e ∷ l) = ((a % 8 * 64 + b % 64) * 64 + d % 64) *
 unfoldable pub first_code : List ℕ → ℕ
 first_code l = code_point (take (sequence_length l) l)
 
--- r is the character at the place `at` of s: its code point and its length, which is 0 where no well_formed sequence begins
+-- r is the character at the place `at` of s: its code point and its length, which is 0 where no well-formed sequence begins
 pub record Decoded (s : List ℕ) (at : ℕ) (r : Character) : Type 0 where
   pub code_is : r.code ≡ first_code (drop at s)
   pub len_is : r.len ≡ sequence_length (drop at s)

@@ -43,24 +43,24 @@ abbrev pub length_by : List Row → List ℕ → ℕ
 length_by [] l = 0
 length_by (row ∷ more) l = cond (fits row l) (length row) (length_by more l)
 
--- the length of the well_formed sequence at the front of the list, and 0 where there is none
+-- the length of the well-formed sequence at the front of the list, and 0 where there is none
 unfoldable pub sequence_length : List ℕ → ℕ
 sequence_length l = length_by rows l
 
--- what is found at i, where l stands and begins with a sequence of n bytes: at the end all is well; where no sequence begins, the ill_formed one
+-- what is found at i, where l stands and begins with a sequence of n bytes: at the end all is well; where no sequence begins, the ill-formed one
 -- begins at i; behind a sequence the rest decides
 abbrev pub step : List ℕ → ℕ → ℕ → Utf8 → Utf8
 step [] n i rest = WellFormed
 step (b ∷ l) zero i rest = IllFormed i
 step (b ∷ l) (suc n) i rest = rest
 
--- the first place from i on where no well_formed sequence begins, the list being what stands at i. Each sequence takes a byte or more, so as
+-- the first place from i on where no well-formed sequence begins, the list being what stands at i. Each sequence takes a byte or more, so as
 -- much fuel as the list has bytes is enough (proofs/Rows.antt, `enough`)
 unfoldable pub first_ill_formed : ℕ → ℕ → List ℕ → Utf8
 first_ill_formed zero i l = WellFormed
 first_ill_formed (suc fuel) i l = step l (sequence_length l) i (first_ill_formed fuel (i + sequence_length l) (drop (sequence_length l) l))
 
--- whether the whole list is well_formed UTF-8, or the first byte of its first ill_formed sequence
+-- whether the whole list is well-formed UTF-8, or the first byte of its first ill-formed sequence
 unfoldable pub utf8_error_lem : List ℕ → Utf8
 utf8_error_lem s = first_ill_formed (length s) 0 s
 

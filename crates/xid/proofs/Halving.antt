@@ -2,7 +2,7 @@
 -- around a row decides whether some range holds c (`in_row`, `none`).
 -- Assumes nothing.
 use mathlib.Core.Path.{◌≡◌, refl, sym, ap, ◌∙◌}
-use mathlib.Core.Bool.{Bool, true, false, ◌&&◌, ◌||◌, or_true, true≢false}
+use mathlib.Core.Bool.{Bool, true, false, ◌&&◌, ◌||◌, or-true, true≢false}
 use mathlib.Core.List.{List, [], ◌∷◌}
 use Prim.Native.Nat.{ℕ, zero, suc, ◌+◌, ◌*◌, ◌≤◌, ◌<◌, zero-le}
 use native.Mathlib.Nat.{add-zero, le_refl, le_trans, le_of_suc-le-suc, not-suc-le-zero}
@@ -199,7 +199,7 @@ covered x y (v ∷ []) a c p q = absurd (true≢false (sym a))
 covered x y (v ∷ w ∷ r) a c p q =
     or_either (leb v x && leb y w) (covers x y r)
     (λ b. simp (le-leb v c (le_trans (leb-true v x (and_left (leb v x) (leb y w) b)) p), le-leb c w (le_trans q (leb-true y w (and_right (leb v x) (leb y w) b)))))
-    (λ b. rw (covered x y r b c p q) (or_true (between v w c))) a
+    (λ b. rw (covered x y r b c p q) (or-true (between v w c))) a
 
 -- each range of the first lies in one of the second
 abbrev pub inside : List ℕ → List ℕ → Bool

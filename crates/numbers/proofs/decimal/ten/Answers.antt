@@ -1,0 +1,103 @@
+-- `numbers::decimal::ten` meets its contract: at each power antt computes the bits of the f64.
+use mathlib.Core.List.{[], ◌∷◌}
+use Prim.Native.Nat.{ℕ, zero-le, suc-le-suc}
+use lib.Dec.{eqb}
+use lib.Ieee.{of_bits, of_int}
+use borrow.Author.Tests.{eqb-true}
+use Rattle.source.proofs.Ranges.{arm}
+use Rattle.numbers.proofs.decimal.ten.Goals as goal
+
+pub returns-in-0 : goal.returns-in-0
+unfolding of_bits of_int
+returns-in-0 c = rw c.in-0.is
+
+pub returns-in-1 : goal.returns-in-1
+unfolding of_bits of_int
+returns-in-1 c = rw c.in-1.is
+
+pub returns-in-2 : goal.returns-in-2
+unfolding of_bits of_int
+returns-in-2 c = rw c.in-2.is
+
+pub returns-in-3 : goal.returns-in-3
+unfolding of_bits of_int
+returns-in-3 c = rw c.in-3.is
+
+pub returns-in-4 : goal.returns-in-4
+unfolding of_bits of_int
+returns-in-4 c = rw c.in-4.is
+
+pub returns-in-5 : goal.returns-in-5
+unfolding of_bits of_int
+returns-in-5 c = rw c.in-5.is
+
+pub returns-in-6 : goal.returns-in-6
+unfolding of_bits of_int
+returns-in-6 c = rw c.in-6.is
+
+pub returns-in-7 : goal.returns-in-7
+unfolding of_bits of_int
+returns-in-7 c = rw c.in-7.is
+
+pub returns-in-8 : goal.returns-in-8
+unfolding of_bits of_int
+returns-in-8 c = rw c.in-8.is
+
+pub returns-in-9 : goal.returns-in-9
+unfolding of_bits of_int
+returns-in-9 c = rw c.in-9.is
+
+pub returns-in-10 : goal.returns-in-10
+unfolding of_bits of_int
+returns-in-10 c = rw c.in-10.is
+
+pub returns-in-11 : goal.returns-in-11
+unfolding of_bits of_int
+returns-in-11 c = rw c.in-11.is
+
+pub returns-in-12 : goal.returns-in-12
+unfolding of_bits of_int
+returns-in-12 c = rw c.in-12.is
+
+pub returns-in-13 : goal.returns-in-13
+unfolding of_bits of_int
+returns-in-13 c = rw c.in-13.is
+
+pub returns-in-14 : goal.returns-in-14
+unfolding of_bits of_int
+returns-in-14 c = rw c.in-14.is
+
+pub returns-in-15 : goal.returns-in-15
+unfolding of_bits of_int
+returns-in-15 c = rw c.in-15.is
+
+pub returns-in-16 : goal.returns-in-16
+unfolding of_bits of_int
+returns-in-16 c = rw c.in-16.is
+
+pub returns-in-17 : goal.returns-in-17
+unfolding of_bits of_int
+returns-in-17 c = rw c.in-17.is
+
+pub returns-in-18 : goal.returns-in-18
+unfolding of_bits of_int
+returns-in-18 c = rw c.in-18.is
+
+pub returns-in-19 : goal.returns-in-19
+unfolding of_bits of_int
+returns-in-19 c = rw c.in-19.is
+
+pub returns-in-20 : goal.returns-in-20
+unfolding of_bits of_int
+returns-in-20 c = rw c.in-20.is
+
+pub returns-in-21 : goal.returns-in-21
+unfolding of_bits of_int
+returns-in-21 c = rw c.in-21.is
+
+pub returns-in_default : goal.returns-in_default
+unfolding of_bits of_int
+returns-in_default c =
+    let last = arm (21 ∷ 20 ∷ 19 ∷ 18 ∷ 17 ∷ 16 ∷ 15 ∷ 14 ∷ 13 ∷ 12 ∷ 11 ∷ 10 ∷ 9 ∷ 8 ∷ 7 ∷ 6 ∷ 5 ∷ 4 ∷ 3 ∷ 2 ∷ 1 ∷ 0 ∷ [])
+    (λ (x : ℕ). eqb x 22) 0 23 tt c.args.k zero-le (suc-le-suc c.requires) c.in_default.in_default-own.rest in
+    rw (eqb-true c.args.k 22 last)
