@@ -58,7 +58,7 @@ module _ {Act : Type 0} {M : Machine Act} where
   unfolding or_else
   off_other q s e h = rw e h
 
-  never_out : {P : St M → Type 0} {o : Out M} → Twin P o o → o ≡ out → ⊥
+  never_out : {P : St M → Type 0} {o o' : Out M} → Twin P o o' → o ≡ out → ⊥
   never_out (twin_ok h) e = let z : ◌≡◌ {A = ℕ} 0 1 = cc in omega arith
   never_out twin_fail e = let z : ◌≡◌ {A = ℕ} 0 1 = cc in omega arith
 

@@ -13,7 +13,7 @@ use Rattle.grammar.specs.Trial.{Machine, St, Out, ok, fail, Parser, and_then, or
 use Rattle.grammar.specs.Descent.{Plan, null, begins}
 use Rattle.grammar.specs.Check.{next, fits, takes, after, low}
 use Rattle.grammar.proofs.Sets.{Sees, and_l, and_r, or_l}
-use Rattle.grammar.proofs.Begin.{On, on_ok, on_fail, Begins, begins_part, unbegun}
+use Rattle.grammar.proofs.Begin.{On, on_ok, on_fail, on_out, Begins, begins_part, unbegun}
 use Rattle.grammar.proofs.Agree.{is_if, not_taken}
 use Rattle.grammar.proofs.Whole.{Sound, begins_rule}
 use Rattle.grammar.proofs.Enough.{Twin, twin_ok, twin_fail, twin_same, Less, twin_loop, twin_part, twin_parse, parse_is}
@@ -43,8 +43,9 @@ module _ {Act : Type 0} {M : Machine Act} where
   failing : {P : St M → Type 0} {o : Out M} → Twin P o o → On (λ _. ⊥) o → o ≡ fail
   failing t (on_ok h) = absurd h
   failing t on_fail = refl
+  failing {P} t on_out = elim t [ ]
 
-  less_of : {m : ℕ} {s s₁ : St M} {o : Out M} → Twin (Less m s) o o → o ≡ ok s₁ → Less m s s₁
+  less_of : {m : ℕ} {s s₁ : St M} {o o' : Out M} → Twin (Less m s) o o' → o ≡ ok s₁ → Less m s s₁
   less_of {m} {s} {s₁} (twin_ok {s = s₂} h) e = let z : s₂ ≡ s₁ = cc in subst (λ (x : St M). Less m s x) z h
   less_of twin_fail e = absurd (let z : ◌≡◌ {A = ℕ} 0 1 = cc in omega arith)
 

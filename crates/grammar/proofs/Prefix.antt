@@ -39,7 +39,7 @@ module _ {Act : Type 0} {M : Machine Act} (v : List ℕ) where
   or_short set false true p q n s le h k = k
   or_short set false false p q n s le h k = short_no le
 
-  same_short : (set : List ℕ) {m : ℕ} {o : Out M} (n : ℕ) (s : St M) → length s.rest ≤ length v → Twin (Less m s) o o → Short v (same_d set o n s)
+  same_short : (set : List ℕ) {m : ℕ} {o o' : Out M} (n : ℕ) (s : St M) → length s.rest ≤ length v → Twin (Less m s) o o' → Short v (same_d set o n s)
   unfolding same_d
   same_short set n s le (twin_ok {s = s₁} h) = short_done {s = s₁} (omega arith)
   same_short set n s le twin_fail = short_no le

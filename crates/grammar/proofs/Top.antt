@@ -16,7 +16,7 @@ use Rattle.grammar.specs.Descent.{Plan, Answer, done, no, deep, descend}
 use Rattle.grammar.specs.Check.{sound, idle, stops}
 use Rattle.grammar.proofs.Sets.{Sees, and_l, and_r, or_e, sees_within}
 use Rattle.grammar.proofs.Begin.{On, on_ok, any, on_then, on_else, on_if}
-use Rattle.grammar.proofs.Agree.{Agree, met, both_no, too_deep, stray}
+use Rattle.grammar.proofs.Agree.{Agree, met, both_no, too_deep, ran_out, stray}
 use Rattle.grammar.proofs.Whole.{Sound, tested, agrees_rule}
 use Rattle.grammar.proofs.Step.{descent_answers}
 use Rattle.grammar.proofs.Prefix.{same_refusal}
@@ -70,6 +70,7 @@ module _ {Act : Type 0} {M : Machine Act} where
   verdict l e (met n) = accepted n
   verdict l e (both_no {n}) = refused n
   verdict l e (too_deep {n}) = thirteen n
+  verdict {K} {P} l e ran_out = elim l [ ]
   verdict l (on_ok h) (stray f) = absurd (f h)
 
   answers : {P : St M → Type 0} {o o' : Out M} → Twin P o o' → o ≡ out → ⊥

@@ -1,7 +1,7 @@
 -- F as the trial takes it comes to the same as F as the descent does: `t` as a name, which 01 has last, may be tried beside t{list}.
 -- Assumes nothing.
 use mathlib.Core.Path.{◌≡◌, refl, ap, ◌∙◌}
-use mathlib.Core.List.{List, [], ◌∷◌}
+use mathlib.Core.List.{[], ◌∷◌}
 use Rattle.grammar.specs.Grammar.{Part, act, tok, ◌⨾◌, ◌∕◌, many}
 use Rattle.grammar.specs.Trial.{Machine, Parser, seq_p, alt_p, take_p, eval}
 use Rattle.grammar.proofs.Factor.{join, split_tok, swap}

@@ -2,7 +2,7 @@
 -- Assumes nothing.
 use mathlib.Core.Path.{◌≡◌, refl, ap, ◌∙◌}
 use mathlib.Core.List.{List, [], ◌∷◌, ◌++◌, map}
-use Prim.Native.Nat.{ℕ, zero, suc, ◌+◌}
+use Prim.Native.Nat.{ℕ, zero, suc}
 use lib.ListN.{length, get_or, drop}
 use Rattle.grammar.specs.Descent.{descend}
 use Rattle.grammar.specs.Flow.{bind, where_same, strip, alike, effect, again, flow, Flows}

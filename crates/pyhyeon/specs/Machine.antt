@@ -1,7 +1,7 @@
 -- What is kept beside the tokens while a script is read: the number of the next token, the nodes that are written, and the values at hand.
 -- The actions are laid out so that a value's nodes are one stretch, and in place only the last node of a stretch is changed (not proved yet).
 -- Assumes nothing.
-use Rattle.std.specs.Prelude.{ℕ, ◌+◌, ◌-◌, List, [], ◌∷◌, ◌++◌, length, get_or, set, drop}
+use Rattle.std.specs.Prelude.{ℕ, ◌-◌, List, [], ◌∷◌, ◌++◌, length, get_or, set, drop}
 use Rattle.ast.specs.Node.{Node}
 use Rattle.ast.specs.Node as ast
 

@@ -46,7 +46,7 @@ work tokens openings nodes = record { tokens = tokens; openings = openings; node
 pub record Starred : Type 0 where
   -- *empty: T 0, N 1, openings 1
   pub nothing : Reads [] (tok Eof 0 0 ∷ []) (Accepted (work 0 1 (made kind.Program 0 0 none 0 0 0 ∷ [])))
-  -- *`a_1`: 14 at 1
+  -- *`a-1`: 14 at 1
   pub signed : Reads (bytes "a-1") (tok Identifier 0 1 ∷ negative 1 3 0 ∷ tok Eof 3 3 ∷ [])
       (Misfit Fault.wrong 1 (work 2 11 (made kind.Variable 0 1 0 1 0 0 ∷ made kind.Expr 0 1 0 0 0 0 ∷ [])))
   -- *`-1.5`: 14 at 3

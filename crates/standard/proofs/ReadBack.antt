@@ -47,7 +47,7 @@ use Rattle.standard.proofs.WellTokens.{name_well, literal_well_said}
 use Rattle.standard.proofs.Hollows.{hollow_alike}
 use Rattle.standard.proofs.Top.{Rewritten, script_stands}
 
--- The standard text of what the tree of these nodes says: where the source is well_formed UTF-8, so is the text; it is scanned, and read as such a script;
+-- The standard text of what the tree of these nodes says: where the source is well-formed UTF-8, so is the text; it is scanned, and read as such a script;
 -- and "writing that again gives the same text", of which no block is empty either.
 pub record ReadBack (source text : List ℕ) {toks : List Token} {ns : List Node} (of : TreeOf source toks ns) : Type 0 where
   pub well_formed : utf8_error_lem source ≡ WellFormed → utf8_error_lem (standard_text (said source text of.tree)) ≡ WellFormed
@@ -102,7 +102,7 @@ module _ (s : List ℕ) (ts : List Token) (bs : List ℕ) (e : token_list s ≡ 
     literals_are = λ i h. literal_spelt s bs (token_no i) (literal_origins i h) (spanned i h.0) (is_literal i h);
   }
 
-  -- ---- and is well_formed
+  -- ---- and is well-formed
 
   module _ (u : utf8_error_lem s ≡ WellFormed) where
     bytes_well : (i : ℕ) → i < length ts → WellBytes s (token_no i)
@@ -127,7 +127,7 @@ module _ (s : List ℕ) (ts : List Token) (bs : List ℕ) (e : token_list s ≡ 
       let t = x.of.tree in
       let p = plain_tokens s ts bs e in
       let g : any_hollow_lem (flat t) ≡ false = ap any_hollow_lem (sym x.of.is) ∙ f in
-      let y = claims.text-scanned (said s bs t) (script_fine SpeltName (λ c l. Spelt (literal_text c l) (sign (literal_code c) l)) s bs ts p leaves_spelt t x.of.proper g) in
+      let y = claims.text_scanned (said s bs t) (script_fine SpeltName (λ c l. Spelt (literal_text c l) (sign (literal_code c) l)) s bs ts p leaves_spelt t x.of.proper g) in
       let r = x.rewritten (standard_text (said s bs t)) y.tokens y.text y.scans y.says in
       record {
         well_formed = λ u. text_well_formed (said s bs t) (script_fine (λ w l. Well (word_text w l)) (λ c l. Well (literal_text c l)) s bs ts p (leaves_well u) t x.of.proper g);

@@ -105,14 +105,14 @@ nothing_hidden : (bs : List Bool) → hidden bs [] ≡ []
 nothing_hidden [] = refl
 nothing_hidden (b ∷ bs) = refl
 
-places_are : {fs : List Field} (bs : List Bool) → Only bs fs → (b : ℕ) (r : Tree (row fs)) → chosen bs (fields b r) ≡ places_of bs r
+places_are : {fs : List Field} (bs : List Bool) (b : ℕ) (r : Tree (row fs)) → Only bs fs → chosen bs (fields b r) ≡ places_of bs r
 unfolding fields places_of
-places_are bs o b done = nothing_chosen bs
-places_are bs (h, o) b (unused r) = left bs 0 (fields b r) h ∙ places_are (drop 1 bs) o b r
-places_are bs (h, o) b (word w r) = chooses bs w (fields b r) ∙ ap (λ (l : List ℕ). cond (get_or bs 0 false) (w ∷ l) l) (places_are (drop 1 bs) o b r)
-places_are bs (h, o) b (child x r) = left bs (top b x) (fields (b + size x) r) h ∙ places_are (drop 1 bs) o (b + size x) r
-places_are bs (h, o) b (kids l r) = left bs (head b l) (fields (b + size l) r) h ∙ places_are (drop 1 bs) o (b + size l) r
-places_are bs (h, o) b (other l r) = left bs (head b l) (fields (b + size l) r) h ∙ places_are (drop 1 bs) o (b + size l) r
+places_are bs b done o = nothing_chosen bs
+places_are bs b (unused r) (h, o) = left bs 0 (fields b r) h ∙ places_are (drop 1 bs) b r o
+places_are bs b (word w r) (h, o) = chooses bs w (fields b r) ∙ ap (λ (l : List ℕ). cond (get_or bs 0 false) (w ∷ l) l) (places_are (drop 1 bs) b r o)
+places_are bs b (child x r) (h, o) = left bs (top b x) (fields (b + size x) r) h ∙ places_are (drop 1 bs) (b + size x) r o
+places_are bs b (kids l r) (h, o) = left bs (head b l) (fields (b + size l) r) h ∙ places_are (drop 1 bs) (b + size l) r o
+places_are bs b (other l r) (h, o) = left bs (head b l) (fields (b + size l) r) h ∙ places_are (drop 1 bs) (b + size l) r o
 
 module _ (source text : List ℕ) where
   size_is : {i : Part} (bs : List Bool) (x : Tree i) → size_b (bare source text bs x) ≡ size x
@@ -147,14 +147,14 @@ module _ (source text : List ℕ) where
   operand_is b (first s e op x y) = rw (size_is [] x, size_is [] y) refl
   operand_is b (link s e s' e' op c y) = rw (size_is [] c, size_is [] y) refl
 
-  fields_are : {fs : List Field} (bs : List Bool) → Only bs fs → (b : ℕ) (r : Tree (row fs)) → hidden bs (fields b r) ≡ fields_b b (bare source text bs r)
+  fields_are : {fs : List Field} (bs : List Bool) (b : ℕ) (r : Tree (row fs)) → Only bs fs → hidden bs (fields b r) ≡ fields_b b (bare source text bs r)
   unfolding fields fields_b bare
-  fields_are bs o b done = nothing_hidden bs
-  fields_are bs (h, o) b (unused r) = stays bs 0 (fields b r) h ∙ ap (λ (l : List ℕ). 0 ∷ l) (fields_are (drop 1 bs) o b r)
-  fields_are bs (h, o) b (word w r) = hides bs w (fields b r) ∙ ap (λ (l : List ℕ). cond (get_or bs 0 false) 0 w ∷ l) (fields_are (drop 1 bs) o b r)
-  fields_are bs (h, o) b (child x r) = rw (size_is [] x) (stays bs (top b x) (fields (b + size x) r) h ∙ ap (λ (l : List ℕ). top b x ∷ l) (fields_are (drop 1 bs) o (b + size x) r))
-  fields_are bs (h, o) b (kids m r) = rw (size_is [] m, head_is b m) (stays bs (head b m) (fields (b + size m) r) h ∙ ap (λ (l : List ℕ). head b m ∷ l) (fields_are (drop 1 bs) o (b + size m) r))
-  fields_are bs (h, o) b (other m r) = rw (size_is [] m, head_is b m) (stays bs (head b m) (fields (b + size m) r) h ∙ ap (λ (l : List ℕ). head b m ∷ l) (fields_are (drop 1 bs) o (b + size m) r))
+  fields_are bs b done o = nothing_hidden bs
+  fields_are bs b (unused r) (h, o) = stays bs 0 (fields b r) h ∙ ap (λ (l : List ℕ). 0 ∷ l) (fields_are (drop 1 bs) b r o)
+  fields_are bs b (word w r) (h, o) = hides bs w (fields b r) ∙ ap (λ (l : List ℕ). cond (get_or bs 0 false) 0 w ∷ l) (fields_are (drop 1 bs) b r o)
+  fields_are bs b (child x r) (h, o) = rw (size_is [] x) (stays bs (top b x) (fields (b + size x) r) h ∙ ap (λ (l : List ℕ). top b x ∷ l) (fields_are (drop 1 bs) (b + size x) r o))
+  fields_are bs b (kids m r) (h, o) = rw (size_is [] m, head_is b m) (stays bs (head b m) (fields (b + size m) r) h ∙ ap (λ (l : List ℕ). head b m ∷ l) (fields_are (drop 1 bs) (b + size m) r o))
+  fields_are bs b (other m r) (h, o) = rw (size_is [] m, head_is b m) (stays bs (head b m) (fields (b + size m) r) h ∙ ap (λ (l : List ℕ). head b m ∷ l) (fields_are (drop 1 bs) (b + size m) r o))
 
   node_is : {fs : List Field} (k s e n b : ℕ) → shape k ≡ fs → (r : Tree (row fs)) →
       shade source text (filled k s e n (fields b r)) ≡ record { kind = k; next = n; fields = fields_b b (bare source text (places k) r); bytes = bytes_at source text k (places_of (places k) r) }
@@ -163,9 +163,9 @@ module _ (source text : List ℕ) where
       let f = four_is (fields b r) (count_is b r ∙ ap length (sym h)) in
       let o = subst (Only (places k)) h (only_words k) in
       let p : hidden (places k) (get_or (fields b r) 0 0 ∷ get_or (fields b r) 1 0 ∷ get_or (fields b r) 2 0 ∷ get_or (fields b r) 3 0 ∷ []) ≡ fields_b b (bare source text (places k) r) =
-      ap (hidden (places k)) f ∙ fields_are (places k) o b r in
+      ap (hidden (places k)) f ∙ fields_are (places k) b r o in
       let q : chosen (places k) (get_or (fields b r) 0 0 ∷ get_or (fields b r) 1 0 ∷ get_or (fields b r) 2 0 ∷ get_or (fields b r) 3 0 ∷ []) ≡ places_of (places k) r =
-      ap (chosen (places k)) f ∙ places_are (places k) o b r in
+      ap (chosen (places k)) f ∙ places_are (places k) b r o in
       λ i. record { kind = k; next = n; fields = p i; bytes = bytes_at source text k (q i) }
 
   binary_is : (s e n op l r : ℕ) → shade source text (flat.binary s e n op l r) ≡ binary_b n op l r

@@ -11,7 +11,7 @@ use Rattle.grammar.specs.Sets.{mem}
 use Rattle.source.specs.Bytes.{part}
 use Rattle.tokens.specs.Token.{Token}
 use Rattle.ast.specs.Kind as kind
-use Rattle.trees.specs.Tree.{Tree, done, unused, word, child, kids, nil, full}
+use Rattle.trees.specs.Tree.{done, unused, word, child, kids, nil, full}
 use Rattle.trees.specs.Flat.{fields}
 use Rattle.trees.specs.Roles.{words, Filled, unaries, arithmetics}
 use Rattle.trees.proofs.Apt.{each}

@@ -1,4 +1,4 @@
--- What a writer spells is well_formed UTF-8: fixed texts, names, literals. Question 5 of 01 asks it of every text that is read.
+-- What a writer spells is well-formed UTF-8: fixed texts, names, literals. Question 5 of 01 asks it of every text that is read.
 -- Assumes nothing.
 use mathlib.Core.Path.{◌≡◌, refl, ap}
 use mathlib.Core.Bool.{Bool, true, false, cond, ◌&&◌}

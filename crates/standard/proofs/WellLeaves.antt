@@ -1,4 +1,4 @@
--- The names, Floats and Strings of a well_formed source are well-formed: a token lies between places where characters begin, and what a String stands for
+-- The names, Floats and Strings of a well-formed source are well-formed: a token lies between places where characters begin, and what a String stands for
 -- has whole characters too, since each escape is, and stands for, bytes under 128.
 -- Assumes nothing.
 use mathlib.Core.Path.{◌≡◌, refl, sym, ap, ◌∙◌, subst}
@@ -130,10 +130,10 @@ held_well text l code used v e h q at n i =
     let g = subst (Held text code l) i h in
     rw g.1 (decoded_well (unquoted l) (q (string_coded code l used at n (e ∙ ap Value i))))
 
-texts_well : {s text : List ℕ} {used : ℕ} {ts : List Token} {bs : List ℕ} → Valued s used ts bs → Each (InText s text) ts → Each (StringByCharacters s) ts → Each (WellString text) ts
-texts_well Valued.none none none = none
-texts_well {s} {text} (Valued.more {used} {t} v h) (more i is) (more q qs) =
-    more (held_well text (bytes_of s t) t.code used t.literal v i (λ c. record { holds = (q c).between })) (texts_well h is qs)
+texts_well : {s : List ℕ} (text : List ℕ) {used : ℕ} {ts : List Token} {bs : List ℕ} → Valued s used ts bs → Each (InText s text) ts → Each (StringByCharacters s) ts → Each (WellString text) ts
+texts_well text Valued.none none none = none
+texts_well {s} text (Valued.more {used} {t} v h) (more i each) (more q qs) =
+    more (held_well text (bytes_of s t) t.code used t.literal v i (λ c. record { holds = (q c).between })) (texts_well text h each qs)
 
 -- ---- the laws of the token list
 
@@ -142,4 +142,4 @@ module _ (s : List ℕ) (ts : List Token) (bs : List ℕ) (w : utf8_error_lem s 
   tokens_well = each_well w (promise s ts bs e)
 
   pub strings_well : Each (WellString bs) ts
-  strings_well = texts_well (tokens_valued s ts bs e) (tokens_held s ts bs e) (strings_by_characters s ts bs w e)
+  strings_well = texts_well bs (tokens_valued s ts bs e) (tokens_held s ts bs e) (strings_by_characters s ts bs w e)

@@ -1,4 +1,4 @@
--- The standard text is well_formed UTF-8, where its names and literals are.
+-- The standard text is well-formed UTF-8, where its names and literals are.
 -- Assumes nothing.
 use mathlib.Core.Path.{◌≡◌}
 use mathlib.Core.List.{List, ◌∷◌}

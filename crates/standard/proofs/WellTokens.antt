@@ -1,4 +1,4 @@
--- What a name or a literal of a well_formed source says is written well_formed.
+-- What a name or a literal of a well-formed source says is written well-formed.
 -- Assumes nothing.
 use mathlib.Core.Path.{◌≡◌, refl, ap, subst}
 use mathlib.Core.Bool.{Bool, true, false, cond}

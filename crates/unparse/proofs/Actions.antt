@@ -4,7 +4,6 @@ use mathlib.Core.Path.{◌≡◌, subst, sym}
 use mathlib.Core.List.{List, ◌∷◌}
 use Prim.Native.Nat.{ℕ, suc, ◌≤◌, max}
 use native.Mathlib.Omega.{arith}
-use Rattle.grammar.specs.Grammar.{act}
 use Rattle.ast.specs.Kind as kind
 use Rattle.pyhyeon.specs.Action.{binary, compare, compare_more, signs_more, list_one, list_done}
 use Rattle.pyhyeon.specs.Action as act

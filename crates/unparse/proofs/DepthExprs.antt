@@ -7,14 +7,14 @@ use Prim.Native.Nat.{ℕ, suc, ◌≤◌}
 use native.Mathlib.Omega.{arith}
 use lib.Dec.{T, eqb, eqb→eq}
 use Rattle.grammar.specs.Sets.{mem}
-use Rattle.grammar.specs.Grammar.{Part, act, tok, call, ◌⨾◌}
+use Rattle.grammar.specs.Grammar.{Part, act, tok, call, ◌⨾◌, many, tail}
 use Rattle.grammar.proofs.Sets.{or_e}
 use Rattle.grammar.proofs.Back.{One, o_skip, o_act, o_tok, o_call, o_seq, o_left, o_right}
-use Rattle.token.specs.Code.{Or, And}
+use Rattle.token.specs.Code.{Or, And, RParen, RBracket, RBrace, Colon, Comma}
 use Rattle.ast.specs.Kind as kind
 use Rattle.pyhyeon.specs.Action.{Action, mark, binary, compare_more, signs_more, list_one}
 use Rattle.pyhyeon.specs.Action as act
-use Rattle.pyhyeon.specs.Rules.{Rule, plain, level, comparisons, sums, products, sign_set, names, entry, postfix}
+use Rattle.pyhyeon.specs.Rules.{Rule, tk, plain, level, comparisons, sums, products, sign_set, names, entry, postfix}
 use Rattle.pyhyeon.specs.Rules as rule
 use Rattle.pyhyeon.specs.Tables.{joined, primary, braces, round, t_joined}
 use Rattle.unparse.specs.Trees.{Item, Expr, Name, Pair, a, Tree}
@@ -25,6 +25,7 @@ use Rattle.unparse.specs.Operators.{op_of}
 use Rattle.unparse.proofs.Machine.{Kept, build, trees}
 use Rattle.unparse.proofs.Needs.{climbs}
 use Rattle.unparse.proofs.Room.{Top, on, bound, Left, expr, item, growing, several, whole, links, less, many_keeps, tail_keeps}
+use Rattle.unparse.proofs.Follow.{Leaves, follow, wholly}
 use Rattle.unparse.proofs.Actions.{a_binary, a_compare, a_link, a_compared, a_signs, a_unary, a_one, a_join, a_done, a_pair, a_lambda, a_list, a_treeset, a_dict, a_set, a_tuple, a_group, a_attribute, a_apply, a_index, a_several, a_lone, a_bare}
 
 -- of a code that is in a set, what holds of each
@@ -39,6 +40,10 @@ each Q (c ∷ l) h t i = ⊎_elim (λ e. subst Q (sym (eqb→eq t c e)) h.0) (λ
 -- an operator of a level, with its right operand
 abbrev Operates : Level → Level → ℕ → Type 0
 Operates l l' t = (level_of (op_of t) ≡ l) × (below (op_of t) ≡ l')
+
+-- a name of a list of names
+abbrev pub a_parameter : Part Action Rule
+a_parameter = tok names ⨾ act (act.named kind.Name)
 
 module _ {m : ℕ} where
   -- an operator and its operand
@@ -83,82 +88,116 @@ module _ {m : ℕ} where
 
   -- signs
   signed : {st : List Value} (k k' : Kept) → One trees (Left m) (tok sign_set ⨾ act signs_more) k k' → Top (λ v. 0) m st k.values → Top (λ v. 0) m st k'.values
-  signed k k' (o_seq {k₁} (o_tok i) o_act) h = a_signs k₁ h
+  signed {st} k k' w h = follow (λ x. Top (λ v. 0) m st x.values) w (λ t i. a_signs (trees.shift t k) h)
 
   pub for_U : {k k' : Kept} → One trees (Left m) (joined rule.U) k k' → Left m rule.U k k'
   unfolding joined plain build
-  for_U (o_seq o_act (o_seq w (o_seq (o_call {k' = k₁} p) o_act))) = a_unary k₁ (many_keeps signed w (on (omega arith))) p
+  for_U {k} w = follow (Left m rule.U k) w (λ k₁ u k₂ p. a_unary k₂ (many_keeps signed u (on (omega arith))) p)
 
   -- a member joined to those before it; a list
   pub joins : (i : Item) {p : Part Action Rule} {st : List Value} → ((k k' : Kept) → One trees (Left m) p k k' → Top (item i) m k.values k'.values) →
       (k k' : Kept) → One trees (Left m) (rule.more p) k k' → Top (growing i) m st k.values → Top (growing i) m st k'.values
-  joins i f k k' (o_seq {k₁} u (o_seq o_act o_act)) h = a_join (build list_one k₁) i h (a_one k₁ i (f _ _ u))
+  joins i {p} {st} f k k' w h =
+      let Q : Kept → Type 0 = λ x. Top (growing i) m st x.values in
+      follow Q w (wholly m p (act list_one ⨾ act act.list_join) k Q (λ k₁ u. a_join (build list_one k₁) i h (a_one k₁ i (f _ _ u))))
 
-  pub listed : (i : Item) {p : Part Action Rule} → ((k k' : Kept) → One trees (Left m) p k k' → Top (item i) m k.values k'.values) →
-      {k k' : Kept} → One trees (Left m) (rule.list_of p) k k' → Top (whole i) m k.values k'.values
+  -- a list, and what stands behind it
+  pub listing : (i : Item) (p q : Part Action Rule) (k : Kept) (Q : Kept → Type 0) → ((k k' : Kept) → One trees (Left m) p k k' → Top (item i) m k.values k'.values) →
+      ((k' : Kept) → Top (whole i) m k.values k'.values → Leaves m q k' Q) → Leaves m (rule.list_of p ⨾ q) k Q
   unfolding build need
-  listed i f (o_right o_act) = on (omega arith)
-  listed i f (o_left (o_seq {k₁} u (o_seq o_act (o_seq {k₁ = k₂} w o_act)))) = a_done k₂ i (tail_keeps (joins i f) w (a_one k₁ i (f _ _ u)))
+  listing i p q k Q f g = (
+    wholly m p (act list_one ⨾ tail Comma (rule.more p) ⨾ act act.list_done) k (λ x. Leaves m q x Q)
+        (λ k₁ u k₂ w. g (build act.list_done k₂) (a_done k₂ i (tail_keeps (joins i f) w (a_one k₁ i (f _ _ u))))),
+    g (build act.list_none k) (on (omega arith)),
+  )
 
   called : (k k' : Kept) → One trees (Left m) (call rule.E) k k' → Top (item Expr) m k.values k'.values
-  called k k' (o_call p) = p
+  called k k' w = follow (λ x. Top (item Expr) m k.values x.values) w (λ k₁ p. p)
 
-  pub named : (k k' : Kept) → One trees (Left m) (tok names ⨾ act (act.named kind.Name)) k k' → Top (item Name) m k.values k'.values
+  pub named : (k k' : Kept) → One trees (Left m) a_parameter k k' → Top (item Name) m k.values k'.values
   unfolding build need
-  named k k' (o_seq (o_tok i) o_act) = on (omega arith)
+  named k k' w = follow (λ x. Top (item Name) m k.values x.values) w (λ t i. on (omega arith))
 
   entered : (k k' : Kept) → One trees (Left m) entry k k' → Top (item Pair) m k.values k'.values
-  entered k k' (o_seq (o_call p) (o_seq (o_tok i) (o_seq (o_call {k' = k₁} q) o_act))) = a_pair k₁ p q
+  entered k k' w = follow (λ x. Top (item Pair) m k.values x.values) w (λ k₁ p t i k₂ q. a_pair k₂ p q)
 
   -- E, in room for one more
   pub for_E : {k k' : Kept} → One trees (Left m) (joined rule.E) k k' → Left (suc m) rule.E k k'
   unfolding joined plain build
-  for_E (o_right (o_call p)) = record { top = p.top; is = p.is; small = omega (arith, p.small, (climbs (p.top.item Expr)).eo, (climbs (p.top.item Expr)).xe) }
-  for_E (o_left (o_seq (o_tok i) (o_seq o_act (o_seq ns (o_seq (o_tok j) (o_seq (o_call {k' = k₁} p) o_act)))))) = a_lambda k₁ (listed Name named ns) p
+  for_E {k} w =
+      let Q : Kept → Type 0 = Left (suc m) rule.E k in
+      follow Q w (
+        (λ t i. listing Name a_parameter (tk Colon ⨾ call rule.E ⨾ act act.lambda) (build act.mark (trees.shift t k)) Q named (λ k₁ ns c j k₂ p. a_lambda k₂ ns p)),
+        (λ k₁ p. record { top = p.top; is = p.is; small = omega (arith, p.small, (climbs (p.top.item Expr)).eo, (climbs (p.top.item Expr)).xe) }),
+      )
 
   -- `{`, `(`, and what stands before the postfix parts
-  in_braces : {k k' : Kept} {t : Value} {st : List Value} → k.values ≡ t ∷ st → One trees (Left m) braces k k' → Top (expr F) m st k'.values
+  in_braces : (k : Kept) {t : Value} {st : List Value} → k.values ≡ t ∷ st → Leaves m braces k (λ x. Top (expr F) m st x.values)
   unfolding build need raise
-  in_braces e (o_left (o_seq (o_tok i) o_act)) = rw e (on (omega arith))
-  in_braces {t} {st} e (o_right (o_seq (o_call p) (o_left (o_seq (o_tok i) (o_seq (o_call {k' = k₁} q) (o_seq o_act (o_seq o_act (o_seq {k₁ = k₂} w (o_seq o_act (o_seq (o_tok {t = c} j) o_act)))))))))) =
-      a_dict k₂ c (subst (λ (vs : List Value). Top (growing Pair) m vs k₂.values) e (tail_keeps (joins Pair entered) w (a_one (build act.pair k₁) Pair (a_pair k₁ p q))))
-  in_braces {t} {st} e (o_right (o_seq {k₁} (o_call p) (o_right (o_seq o_act (o_seq {k₁ = k₂} w (o_seq o_act (o_seq (o_tok {t = c} j) o_act))))))) =
-      a_set k₂ c (subst (λ (vs : List Value). Top (growing Expr) m vs k₂.values) e (tail_keeps (joins Expr called) w (a_one k₁ Expr p)))
+  in_braces k {t} {st} e = (
+    (λ c i. rw e (on (omega arith))),
+    (λ k₁ p. (
+      (λ d i k₂ q k₃ w c j.
+          a_dict k₃ c (subst (λ (vs : List Value). Top (growing Pair) m vs k₃.values) e (tail_keeps (joins Pair entered) w (a_one (build act.pair k₂) Pair (a_pair k₂ p q))))),
+      (λ k₂ w c j. a_set k₂ c (subst (λ (vs : List Value). Top (growing Expr) m vs k₂.values) e (tail_keeps (joins Expr called) w (a_one k₁ Expr p)))),
+    )),
+  )
 
-  in_parens : {k k' : Kept} {t : Value} {st : List Value} → k.values ≡ t ∷ st → One trees (Left m) round k k' → Top (expr F) m st k'.values
+  in_parens : (k : Kept) {t : Value} {st : List Value} → k.values ≡ t ∷ st → Leaves m round k (λ x. Top (expr F) m st x.values)
   unfolding build need raise
-  in_parens e (o_right (o_seq (o_tok i) (o_seq (o_tok j) o_act))) = rw e (on (omega arith))
-  in_parens e (o_left (o_seq (o_call {k' = k₁} p) (o_left (o_seq (o_tok {t = c} i) o_act)))) = a_group (trees.shift c k₁) (subst (λ (vs : List Value). Top (expr X) m vs k₁.values) e p)
-  in_parens e (o_left (o_seq {k₁} (o_call p) (o_right (o_seq (o_tok {t = d} i) (o_seq (o_seq o_act (o_seq (o_right o_skip) o_act)) (o_seq (o_tok {t = c} j) o_act)))))) =
-      a_tuple (build list_one (trees.shift d k₁)) c (subst (λ (vs : List Value). Top (growing Expr) m vs (build list_one (trees.shift d k₁)).values) e (a_one (trees.shift d k₁) Expr p))
-  in_parens e (o_left (o_seq {k₁} (o_call p) (o_right (o_seq (o_tok {t = d} i) (o_seq (o_seq o_act (o_seq {k₁ = k₂} (o_left (o_seq v w)) o_act)) (o_seq (o_tok {t = c} j) o_act)))))) =
-      a_tuple k₂ c (subst (λ (vs : List Value). Top (growing Expr) m vs k₂.values) e (tail_keeps (joins Expr called) w (joins Expr called _ _ v (a_one (trees.shift d k₁) Expr p))))
+  in_parens k {t} {st} e =
+      let Q : Kept → Type 0 = λ x. Top (expr F) m st x.values in (
+        (λ k₁ p. (
+          (λ c i. a_group (trees.shift c k₁) (subst (λ (vs : List Value). Top (expr X) m vs k₁.values) e p)),
+          (λ d i. (
+            wholly m (rule.more (call rule.E)) (tail Comma (rule.more (call rule.E)) ⨾ act act.list_done ⨾ tk RParen ⨾ act (act.enclose kind.Tuple)) (build list_one (trees.shift d k₁)) Q
+                (λ k₂ v k₃ w c j. a_tuple k₃ c
+                (subst (λ (vs : List Value). Top (growing Expr) m vs k₃.values) e (tail_keeps (joins Expr called) w (joins Expr called _ _ v (a_one (trees.shift d k₁) Expr p))))),
+            (λ c j. a_tuple (build list_one (trees.shift d k₁)) c
+                (subst (λ (vs : List Value). Top (growing Expr) m vs (build list_one (trees.shift d k₁)).values) e (a_one (trees.shift d k₁) Expr p))),
+          )),
+        )),
+        (λ c i d j. rw e (on (omega arith))),
+      )
 
-  first : {k k' : Kept} → One trees (Left m) primary k k' → Top (expr F) m k.values k'.values
+  first : (k : Kept) → Leaves m primary k (λ x. Top (expr F) m k.values x.values)
   unfolding build need raise
-  first (o_left (o_seq (o_tok i) o_act)) = on (omega arith)
-  first (o_right (o_left (o_seq (o_tok i) (o_seq o_act (o_seq {k₁} w (o_seq (o_tok {t = c} j) o_act)))))) = a_list (trees.shift c k₁) (listed Expr called w)
-  first (o_right (o_right (o_left (o_seq (o_tok i) (o_left (o_seq o_act (o_seq (o_tok h) (o_seq {k₁} w (o_seq (o_tok {t = c} j) o_act))))))))) = a_treeset (trees.shift c k₁) (listed Expr called w)
-  first (o_right (o_right (o_left (o_seq (o_tok i) (o_right o_act))))) = on (omega arith)
-  first (o_right (o_right (o_right (o_left (o_seq (o_tok i) (o_seq o_act w)))))) = in_braces refl w
-  first (o_right (o_right (o_right (o_right (o_left (o_seq (o_tok i) (o_seq o_act w))))))) = in_parens refl w
-  first (o_right (o_right (o_right (o_right (o_right (o_seq (o_tok i) o_act)))))) = on (omega arith)
+  first k =
+      let Q : Kept → Type 0 = λ x. Top (expr F) m k.values x.values in (
+        (λ t i. on (omega arith)),
+        (
+          (λ t i. listing Expr (call rule.E) (tk RBracket ⨾ act (act.enclose kind.List)) (build act.mark (trees.shift t k)) Q called (λ k₁ w c j. a_list (trees.shift c k₁) w)),
+          (
+            (λ t i. ((λ d h. listing Expr (call rule.E) (tk RBrace ⨾ act (act.enclose kind.TreeSet)) (trees.shift d (build act.mark (trees.shift t k))) Q called (λ k₁ w c j. a_treeset (trees.shift c k₁) w)), on (omega arith))),
+            ((λ t i. in_braces (build act.mark (trees.shift t k)) refl), ((λ t i. in_parens (build act.mark (trees.shift t k)) refl), (λ t i. on (omega arith)))),
+          ),
+        ),
+      )
 
   behind : {st : List Value} (k k' : Kept) → One trees (Left m) postfix k k' → Top (expr F) m st k.values → Top (expr F) m st k'.values
-  behind k k' (o_left (o_seq (o_tok i) (o_seq {k₁} (o_tok j) o_act))) h = a_attribute k₁ h
-  behind k k' (o_right (o_left (o_seq (o_tok i) (o_seq w (o_seq {k₁} (o_tok j) o_act))))) h = a_apply k₁ h (listed Expr called w)
-  behind k k' (o_right (o_right (o_seq (o_tok i) (o_seq (o_call p) (o_seq {k₁} (o_tok j) o_act))))) h = a_index k₁ h p
+  behind {st} k k' w h =
+      let Q : Kept → Type 0 = λ x. Top (expr F) m st x.values in
+      follow Q w (
+        (λ t i c j. a_attribute (trees.shift c (trees.shift t k)) h),
+        (
+          (λ t i. listing Expr (call rule.E) (tk RParen ⨾ act act.apply) (trees.shift t k) Q called (λ k₁ v c j. a_apply (trees.shift c k₁) h v)),
+          (λ t i k₁ p c j. a_index (trees.shift c k₁) h p),
+        ),
+      )
 
   pub for_F : {k k' : Kept} → One trees (Left m) (joined rule.F) k k' → Left m rule.F k k'
   unfolding joined
-  for_F (o_seq v w) = many_keeps behind w (first v)
+  for_F {k} w = follow (Left m rule.F k) w (wholly m primary (many postfix) k (Left m rule.F k) (λ k₁ v k₂ u. many_keeps behind u (follow (λ x. Top (expr F) m k.values x.values) v (first k))))
 
   -- the expressions of a whole statement
   bare_joins : {st : List Value} (k k' : Kept) → One trees (Left m) (rule.more (call rule.E)) k k' → Top several m st k.values → Top several m st k'.values
-  bare_joins k k' (o_seq {k₁} (o_call p) (o_seq o_act o_act)) h = a_several k₁ (less (λ v le. omega arith) h) p
+  bare_joins {st} k k' w h = follow (λ x. Top several m st x.values) w (λ k₁ p. a_several k₁ (less (λ v le. omega arith) h) p)
 
   pub for_t : {k k' : Kept} → One trees (Left m) t_joined k k' → Top (expr Lt) m k.values k'.values
-  for_t (o_seq (o_call p) (o_right o_skip)) = less (λ v le. omega (arith, (climbs (v.item Expr)).tx)) p
-  for_t (o_seq (o_call p) (o_left (o_seq {k₁} (o_tok i) (o_seq o_act (o_seq (o_right o_skip) o_act))))) = a_bare (build list_one k₁) (a_lone k₁ p)
-  for_t (o_seq (o_call p) (o_left (o_seq {k₁} (o_tok i) (o_seq o_act (o_seq {k₁ = k₃} (o_left (o_seq (o_seq {k₁ = k₂} (o_call q) (o_seq o_act o_act)) w)) o_act))))) =
-      a_bare k₃ (tail_keeps bare_joins w (a_several k₂ (a_one k₁ Expr p) q))
+  for_t {k} w = follow (λ x. Top (expr Lt) m k.values x.values) w (λ k₁ p. (
+    (λ t i. (
+      (λ k₂ q k₃ u. a_bare k₃ (tail_keeps bare_joins u (a_several k₂ (a_one (trees.shift t k₁) Expr p) q))),
+      a_bare (build list_one (trees.shift t k₁)) (a_lone (trees.shift t k₁) p),
+    )),
+    less (λ v le. omega (arith, (climbs (v.item Expr)).tx)) p,
+  ))

@@ -17,6 +17,7 @@ pub mod Return
 pub mod Needs
 pub mod Room
 pub mod Actions
+pub mod Follow
 pub mod DepthExprs
 pub mod DepthStmts
 pub mod Depth

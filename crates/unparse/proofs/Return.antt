@@ -12,7 +12,7 @@ use Rattle.unparse.specs.Trees.{Load, Sort, script, Tree}
 use Rattle.unparse.specs.Levels.{Level, X}
 use Rattle.unparse.proofs.Write.{write, need, print}
 use Rattle.unparse.specs.Values.{Value}
-use Rattle.unparse.proofs.Machine.{Kept, keep, top, trees, loads}
+use Rattle.unparse.proofs.Machine.{Kept, keep, trees, loads}
 use Rattle.unparse.proofs.Top as written
 use Rattle.unparse.proofs.Made.{Made}
 use Rattle.unparse.proofs.Built.{built}

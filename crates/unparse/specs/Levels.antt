@@ -1,6 +1,5 @@
 -- Where an expression stands, and where it needs parentheses: "parentheses only where the tree needs them" (02, change 6).
 -- Assumes nothing.
-use mathlib.Core.HLevel.{Discrete}
 use Rattle.unparse.specs.Trees.{Op}
 
 -- Where an expression stands: as a whole statement's; as an E; within an E; and by the rules below E, with G for an F and its signs.
