@@ -37,14 +37,14 @@ pub good : (r : Rule) → Sound pyhyeon r
 good r = tested pyhyeon r (language.passes r)
 
 -- an answer that is a node tells what the descent came to
-pub is_node : {src toks : List ℕ} {out : Shape} {x : Answer (machine src (tokens_of src toks))} {r : Parsed} {tr : List ℕ} {n : NodeNumber} {s : State} {vs : List Value} → Told src toks out vs x r tr → r ≡ Node n s →
+pub is_node : {src toks : List ℕ} {out : Shape} {vs : List Value} {x : Answer (machine src (tokens_of src toks))} {r : Parsed} {tr : List ℕ} {n : NodeNumber} {s : State} → Told src toks out vs x r tr → r ≡ Node n s →
     x ≡ done s.opened (state src toks s tr (out n.0 s.nodes ∷ vs))
 is_node (told_node n s tr u) e = cc
 is_node (told_no asked s tr ws u) e = cc
 is_node (told_deep s tr ws u) e = cc
 
 -- and the text before its token is counted
-pub is_used : {src toks : List ℕ} {out : Shape} {x : Answer (machine src (tokens_of src toks))} {r : Parsed} {tr : List ℕ} {n : NodeNumber} {s : State} {vs : List Value} → Told src toks out vs x r tr → r ≡ Node n s →
+pub is_used : {src toks : List ℕ} {out : Shape} {vs : List Value} {x : Answer (machine src (tokens_of src toks))} {r : Parsed} {tr : List ℕ} {n : NodeNumber} {s : State} → Told src toks out vs x r tr → r ≡ Node n s →
     s.used ≡ text_before src toks s.at.0
 is_used {s = s} (told_node n s₁ tr u) e = let d : s₁ ≡ s = cc in rw (← d) u
 is_used (told_no asked s tr ws u) e = let z : ◌≡◌ {A = ℕ} 0 1 = cc in absurd (omega arith)
@@ -276,7 +276,7 @@ module _ {src toks : List ℕ} {room : ℕ} {r : Rule} {out : Shape} {s : State}
       go zero nz c = absurd (nz refl)
       go (suc m) nz c = let e : suc m - 1 ≡ m = omega arith in record { told = λ vs. rw (descend_is pyhyeon good (suc m) r s.opened (state src toks s tr vs), o) (rw e at (c vs).told); frame = (c []).frame }
 
-stop : {src toks : List ℕ} {out mid : Shape} {vs : List Value} {x : Answer (machine src (tokens_of src toks))} {b : Parsed} {t : List ℕ} {k : ℕ} {s₁ : State} {us : List Value} (w : Walk (machine src (tokens_of src toks))) → Told src toks mid us x b t → b ≡ Refused k s₁ → Told src toks out vs (then_d x w) (Refused k s₁) t
+stop : {src toks : List ℕ} {out mid : Shape} {vs us : List Value} {x : Answer (machine src (tokens_of src toks))} {b : Parsed} {t : List ℕ} {k : ℕ} {s₁ : State} (w : Walk (machine src (tokens_of src toks))) → Told src toks mid us x b t → b ≡ Refused k s₁ → Told src toks out vs (then_d x w) (Refused k s₁) t
 unfolding then_d
 stop w (told_node n s tr u) e = absurd (let z : ◌≡◌ {A = ℕ} 0 1 = cc in omega arith)
 stop w (told_no asked s tr ws u) e = rw (← e) (told_no asked s tr ws u)

@@ -7,7 +7,7 @@ use native.Mathlib.Omega.{arith}
 use lib.ListN.{length}
 use Rattle.grammar.specs.Grammar.{Part, act, ◌⨾◌}
 use Rattle.token.specs.declared.NodeNumber.{NodeNumber}
-use Rattle.pyhyeon.specs.Machine.{Value, node, growing}
+use Rattle.pyhyeon.specs.Machine.{Value, growing}
 use Rattle.pyhyeon.specs.Action.{Action, list_done}
 use Rattle.pyhyeon.specs.Rules.{Rule}
 use Rattle.leaves.specs.declared.State.{State}

@@ -79,7 +79,7 @@ module _ {src toks : List ℕ} where
   text_along {used} i (suc k) (Valued.more {t} {ts} {bs} v w) f e h =
       let z : i + suc k ≡ i + 1 + k = omega arith in
       let x = text_of t.code (bytes_of src t) in
-      rw z (omega (arith, text_along (i + 1) k w (onward f) (reads_text src (reads f) e) (omega arith), length-append x bs))
+      rw z (omega (arith, text_along {used = used + length x} (i + 1) k w (onward f) (reads_text src (reads f) e) (omega arith), length-append x bs))
 
   span_along : {ts : List Token} (i k : ℕ) → Each (Spanned (length src)) ts → From toks i ts → k < length ts → Span src toks (i + k)
   span_along i k none f h = absurd (omega arith)

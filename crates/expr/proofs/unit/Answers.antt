@@ -1,0 +1,30 @@
+-- `expr::unit` meets its contract: the empty Tuple.
+use Rattle.joint.proofs.Taken.{ready_tested, taken_wrote}
+use Rattle.joint.proofs.Chain.{tok_not}
+use Rattle.lookahead.proofs.Tests.{learnt}
+use Rattle.token.specs.Code as code
+use mathlib.Core.List.{[], ◌∷◌}
+use mathlib.Core.Path.{refl}
+use native.Mathlib.Omega.{arith}
+use Rattle.expr.proofs.unit.Goals as goal
+
+pub past-requires : goal.past-requires
+past-requires c = omega arith
+
+pub put_empty-made-requires : goal.put_empty-made-requires
+put_empty-made-requires c =
+    let r = c.requires.ready in
+    let m = ready_tested (code.RParen ∷ []) refl refl r c.if-is_symbol.true c.is_symbol.ensures c.symbol_at.ensures in
+    record { spot = rw c.past.ensures (omega arith); opener_lt_at = rw c.past.ensures (omega arith) }
+
+pub returns-then-is_symbol : goal.returns-then-is_symbol
+returns-then-is_symbol c =
+    let r = c.requires.ready in
+    let m = ready_tested (code.RParen ∷ []) refl refl r c.if-is_symbol.true c.is_symbol.ensures c.symbol_at.ensures in
+    λ room. record { comes = λ vs. taken_wrote m (rw c.past.ensures at (c.put_empty-made.ensures c.args.src.now)) }
+
+pub returns-else-is_symbol : goal.returns-else-is_symbol
+returns-else-is_symbol c =
+    let r = c.requires.ready in
+    let e = learnt (code.RParen ∷ []) c.if-is_symbol.false c.is_symbol.ensures c.symbol_at.ensures in
+    λ room. record { comes = λ vs. tok_not r.here r.used e refl }
