@@ -19,7 +19,7 @@ use Rattle.grammar.specs.Limits.{before}
 use Rattle.token.specs.Code.{Eof}
 use Rattle.tokens.specs.Token.{Token}
 use Rattle.lexer.specs.Scan.{Scan, scanned, refused, token_list}
-use Rattle.lexer.specs.Words.{words, text_bytes}
+use Rattle.lexer.specs.Words.{text_bytes}
 use Rattle.lexer.proofs.Laws.{tokens_few, text_few}
 use Rattle.lexer.proofs.Refusals.{refusals}
 use Rattle.pyhyeon.specs.Symbol.{symbols}
