@@ -34,7 +34,7 @@ use Rattle.ffi.specs.Called.{Small}
 
 -- ---- the place
 
--- an ill_formed sequence begins at a byte
+-- an ill-formed sequence begins at a byte
 abbrev Ill : ℕ → Utf8 → Type 0
 Ill n WellFormed = Unit {0}
 Ill n (IllFormed place) = place ≤ n

@@ -11,7 +11,7 @@ use Rattle.areas.specs.Area.{token_area}
 use Rattle.tokens.specs.Token.{Token}
 use Rattle.lexer.specs.Scan.{Scan, scanned, refused}
 use Rattle.ast.specs.Node.{Node}
-use Rattle.pyhyeon.specs.Reading.{Work, Accepted, descent, work_of}
+use Rattle.pyhyeon.specs.Reading.{Work, descent, work_of}
 use Rattle.trees.specs.Law.{TreeOf}
 use Rattle.standard.specs.Erase.{said}
 use Rattle.standard.specs.Text.{standard_text}

@@ -21,7 +21,7 @@ use Rattle.standard.specs.Text.{standard_text}
 use Rattle.standard.proofs.Top.{script_stands}
 use Rattle.standard.proofs.ReadBack.{read_back}
 use Rattle.reader.specs.declared.Answer.TheVariants.{Tree}
-use Rattle.reader.specs.Outcome.{Outcome, tree_area, accepted, outcome, untouched, of_descent, of_scan, of_utf8}
+use Rattle.reader.specs.Outcome.{Outcome, tree_area, outcome, untouched, of_descent, of_scan, of_utf8}
 use Rattle.writer.specs.Back.{Read, Written}
 use Rattle.writer.specs.Writes.{accepts}
 

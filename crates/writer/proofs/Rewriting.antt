@@ -30,7 +30,6 @@ use Rattle.writer_expr.specs.declared.Spot.{Spot}
 use Rattle.writer_expr.proofs.Bridge.{whole_stands}
 use Rattle.writer_stmt.specs.Lines.{SomeProgram, PutsProgram}
 use Rattle.writer.specs.Steps.{Accepted, Rewritten}
-use Rattle.writer.specs.declared.Answer.{Answer}
 use Rattle.writer.specs.declared.Answer.TheVariants.{Text, Hollow, Full}
 use Rattle.writer.proofs.Placed.{all_placed}
 

@@ -1,0 +1,32 @@
+-- The measures of the cycle, and what each member is given at a measure and asks below it. A measure is four times the number behind the last
+-- node, and the member's rank: a call at the same node goes to a lower rank.
+use Prim.Native.Nat.{ℕ, ◌+◌, ◌*◌, ◌≤◌}
+use mathlib.Core.Path.{◌≡◌}
+use Rattle.writer_stmt.specs.Lines.{Line}
+use lib.ListN.{length}
+use Rattle.unparse.specs.Levels.{X}
+use Rattle.unparse.specs.Trees.{Item, a, list, Tree}
+use Rattle.standard.specs.Bare.{head_b}
+use Rattle.standard.specs.Plant.{plant}
+use Rattle.writer_expr.specs.Laid.{Stands}
+use Rattle.writer_stmt.proofs.Lists.{LeftOf}
+use Rattle.standard.specs.Text as standard
+use Rattle.writer_stmt.proofs.+put_lines.Given as goal
+
+abbrev pub decreases-put_else : goal.decreases-put_else
+decreases-put_else l = 4 * l.end + 2
+
+abbrev pub decreases-put_if : goal.decreases-put_if
+decreases-put_if l = 4 * l.end + 0
+
+abbrev pub decreases-put_line : goal.decreases-put_line
+decreases-put_line l = 4 * l.end + 1
+
+abbrev pub decreases-put_lines : goal.decreases-put_lines
+decreases-put_lines l = 4 * l.end + 2
+
+abbrev pub invariant-put_lines-loop-s : goal.invariant-put_lines-loop-s
+invariant-put_lines-loop-s l = (l.next ≤ length l.out + 1) × (l.e ≤ l.end) × (length l.out ≡ length l.initial.out) × (l.from ≡ l.first) × ((i : Item) → Line (a i) → (b : ℕ) (ls : Tree (list i)) → Stands l.src l.text l.tree b ls l.end → l.first ≡ head_b b (plant ls) → LeftOf l.depth i l.src l.text l.tree (standard.text l.depth X ls) b l.from l.initial.out l.at l.out l.next l.e)
+
+abbrev pub decreases-put_lines-loop-s : goal.decreases-put_lines-loop-s
+decreases-put_lines-loop-s l = l.e
