@@ -4,7 +4,7 @@ ghost use Rattle.std.proofs.lemmas.List.Edits.{sets};
 ghost use Rattle.io.specs.Counts.{IsPrefixLen};
 ghost use Rattle.cases.specs.Hex.{nibble_of, unhexed};
 
-use libc::STDOUT_FILENO;
+use crate::STDOUT_FILENO;
 
 // A hexadecimal digit's value; any other byte counts as 0.
 fn nibble(b: u8) -> u8

@@ -2,10 +2,9 @@
 ghost use Rattle.std.specs.Prelude.{◌≤◌, length};
 ghost use Rattle.lookahead.specs.Tokens.{Tokens};
 
-use cases::print;
+use cases::{STDOUT_FILENO, print};
 use leaves::{Parsed, State};
 use lexer::Scanned;
-use libc::STDOUT_FILENO;
 use token::TokenNumber;
 
 // The longest source: its areas have 3,072 words of tokens, 1,023 bytes of text and 16,384 words of tree.

@@ -6,13 +6,14 @@
 //     no NUMBER PLACE OPENED       a refusal of t, 13 or what it hands on (14 or 16), with the openings up to it
 //
 // What follows t is not asked for. docs/CASES.md says how the cases were made.
+#![tactic(auto)]
+
 mod answers;
 
 use answers::print_answer;
 use cases::hex::unhex;
-use cases::lines::line_end;
+use cases::lines::{line_end, read_full};
 use cases::print;
-use libc::STDIN_FILENO;
 
 fn print_case(line: &[u8]) {
     print(line);
@@ -33,8 +34,8 @@ fn print_cases(text: &[u8]) {
     }
 }
 
-fn main() {
+fn main(rt: HostRuntime) {
     let mut buffer = io::large_buffer();
-    let n = io::read_full(STDIN_FILENO, &mut buffer);
+    let n = read_full(&mut rt.stdin(), &mut buffer);
     print_cases(&buffer[..n]);
 }

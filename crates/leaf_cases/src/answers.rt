@@ -2,8 +2,7 @@
 ghost use Rattle.std.specs.Prelude.{◌≤◌, length};
 
 use cases::hex::print_bytes;
-use cases::print;
-use libc::STDOUT_FILENO;
+use cases::{STDOUT_FILENO, print};
 use numbers::decimal::Decimal;
 use numbers::halves::Halves;
 use numbers::integer::Integer;
@@ -69,7 +68,7 @@ pub fn print_utf8(s: &[u8]) {
     let checked = utf8::utf8_error(s);
     let found = checked.found;
     match found {
-        Utf8::WellFormed => print(b"well_formed"),
+        Utf8::WellFormed => print(b"well-formed"),
         Utf8::IllFormed(at) => {
             io::print_decimal(STDOUT_FILENO, at as u64);
         }

@@ -5,16 +5,21 @@
 //     f TEXT   a Float: the 64 bits of its value in hexadecimal, or a dash where it is not admitted
 //     t HEX    a source: the token at each place, up to the end, as code:end, or a dash where none matches
 //     s HEX    what stands between a String's quotes: its decoded bytes and how many they are
-//     u HEX    a text: whether it is well_formed UTF-8, or the place where it is not; and the rounds of the check
+//     u HEX    a text: whether it is well-formed UTF-8, or the place where it is not; and the rounds of the check
 //     c HEX    a text: each character's code point, with s where it is in XID_Start and c where it is in XID_Continue, up to a place with no character
 //
 // docs/CASES.md says how the cases were made.
+#![tactic(auto)]
+
 mod answers;
 
 use answers::{print_characters, print_float, print_int, print_string, print_tokens, print_utf8};
 use cases::hex::unhex;
 use cases::lines::line_end;
 use cases::print;
+use std::env::FillError;
+use std::io::Eprint;
+use std::rt::{Env, Files};
 
 // The result of a case whose bytes are written in hexadecimal.
 fn print_bytes_case(letter: u8, hex: &[u8]) {
@@ -56,18 +61,20 @@ fn print_cases(text: &[u8]) {
     }
 }
 
-fn print_file(path: &[u8]) {
+fn print_file<R: Files + Eprint>(rt: &R, path: &[u8]) {
     let mut buffer = io::large_buffer();
-    let n = cases::lines::read(path, &mut buffer);
+    let n = cases::lines::read(rt, path, &mut buffer);
     print_cases(&buffer[..n]);
 }
 
-fn main() {
-    let mut i: usize = 1;
-    while i < os::arg_count() {
+// An argument that is too long names no file.
+fn main(rt: HostRuntime) {
+    for i in 1..usize::MAX {
         let mut path = io::buffer();
-        let n = os::arg(i, &mut path);
-        print_file(&path[..n]);
-        i += 1;
+        match rt.arg(i, &mut path) {
+            Ok(n) => print_file(&rt, &path[..n]),
+            Err(FillError::TooLong) => print_file(&rt, b""),
+            Err(FillError::NotPresent) => return,
+        }
     }
 }

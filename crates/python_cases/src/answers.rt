@@ -1,7 +1,6 @@
 // The tree of one source, printed.
 use cases::hex::print_bytes;
-use cases::print;
-use libc::STDOUT_FILENO;
+use cases::{STDOUT_FILENO, print};
 use reader::Answer;
 
 // The longest source: its areas have 3,072 words of tokens, 1,023 bytes of text and 16,384 words of tree.

@@ -7,12 +7,17 @@
 // No text at all and the word that means none are a dash.
 //
 // What must come is made from CPython's own reading. docs/CASES.md says how.
+#![tactic(auto)]
+
 mod answers;
 
 use answers::print_answer;
 use cases::hex::unhex;
 use cases::lines::line_end;
 use cases::print;
+use std::env::FillError;
+use std::io::Eprint;
+use std::rt::{Env, Files};
 
 fn print_case(line: &[u8]) {
     print(line);
@@ -33,18 +38,20 @@ fn print_cases(text: &[u8]) {
     }
 }
 
-fn print_file(path: &[u8]) {
+fn print_file<R: Files + Eprint>(rt: &R, path: &[u8]) {
     let mut buffer = io::large_buffer();
-    let n = cases::lines::read(path, &mut buffer);
+    let n = cases::lines::read(rt, path, &mut buffer);
     print_cases(&buffer[..n]);
 }
 
-fn main() {
-    let mut i: usize = 1;
-    while i < os::arg_count() {
+// An argument that is too long names no file.
+fn main(rt: HostRuntime) {
+    for i in 1..usize::MAX {
         let mut path = io::buffer();
-        let n = os::arg(i, &mut path);
-        print_file(&path[..n]);
-        i += 1;
+        match rt.arg(i, &mut path) {
+            Ok(n) => print_file(&rt, &path[..n]),
+            Err(FillError::TooLong) => print_file(&rt, b""),
+            Err(FillError::NotPresent) => return,
+        }
     }
 }

@@ -2,9 +2,8 @@
 ghost use Rattle.std.specs.Prelude.{◌≤◌};
 
 use cases::hex::print_bytes;
-use cases::print;
+use cases::{STDOUT_FILENO, print};
 use lexer::Scanned;
-use libc::STDOUT_FILENO;
 
 // The slices are longer than their areas, and hold these before the scan. No word of a token is so large, and no decoded text has such a byte.
 const GUARD_WORD: u32 = 4294967295;

@@ -6,12 +6,16 @@
 //
 // Behind that stands `rest` where a word or byte of an area that was not filled is not zero, and `guard` where one beyond an area changed.
 // docs/CASES.md says how the cases were made.
+#![tactic(auto)]
+
 mod answers;
 
 use answers::print_answer;
 use cases::hex::unhex;
 use cases::lines::line_end;
 use cases::print;
+use std::io::Eprint;
+use std::rt::Files;
 
 fn print_case(line: &[u8]) {
     print(line);
@@ -32,13 +36,13 @@ fn print_cases(text: &[u8]) {
     }
 }
 
-fn print_file(path: &[u8]) {
+fn print_file<R: Files + Eprint>(rt: &R, path: &[u8]) {
     let mut buffer = io::large_buffer();
-    let n = cases::lines::read(path, &mut buffer);
+    let n = cases::lines::read(rt, path, &mut buffer);
     print_cases(&buffer[..n]);
 }
 
-fn main() {
-    print_file(b"picked");
-    print_file(b"generated");
+fn main(rt: HostRuntime) {
+    print_file(&rt, b"picked");
+    print_file(&rt, b"generated");
 }

@@ -8,6 +8,11 @@ use Rattle.shell.specs.declared.Stage.{Stage}
 use Rattle.shell.specs.declared.Stage.TheVariants.{Open, Whole, Longer, Failed}
 use Rattle.shell.specs.declared.Reading.{Reading}
 
+-- what a call that is handed n bytes may answer: -1, or how many bytes it moved, at most n
+abbrev pub Moved : ℕ → ℤ → Type 0
+Moved n (pos k) = k ≤ n
+Moved n (negsuc k) = k ≡ 0
+
 -- what one read hands back: a failure, or bytes, and none of them at the end of the input
 pub data Handed : Type 0 where
   failure : Handed

@@ -1,15 +1,16 @@
 // The input as it is read, and the program's answer to it: all of the program but the calls of the system. The fields of a state are private, so a
 // program comes to one only by `start` and, read by read, by `take`.
+#![tactic(auto)]
+
 ghost use Rattle.std.specs.Prelude.{◌≡◌, true, false, [], ◌≤◌, take};
-ghost use Rattle.libc.specs.Io.{Moved};
 ghost use Rattle.printing.specs.Wrote.{Shows};
-ghost use Rattle.shell.specs.Input.{bytes, handed, front, heard, shown, is_open_lem, has_failed_lem, input_of, input, Sound};
+ghost use Rattle.shell.specs.Input.{Moved, bytes, handed, front, heard, shown, is_open_lem, has_failed_lem, input_of, input, Sound};
 
 // What one read is lent.
 pub const CHUNK: usize = 1024;
 
 // Whether the end is still to come, and what was found there.
-#[derive(Drop)]
+#[derive(Clone, Copy)]
 enum Stage {
     Open,
     Whole,
@@ -18,7 +19,7 @@ enum Stage {
 }
 
 // The first `len` bytes of the script were read.
-#[derive(Drop)]
+#[derive(Clone, Copy)]
 pub struct Reading {
     script: [u8; listing::MOST + 1],
     len: usize,
@@ -68,7 +69,7 @@ fn more(reading: Reading, k: usize, chunk: &[u8; CHUNK]) -> Reading
         return at(reading, Stage::Longer);
     }
     let mut script = reading.script;
-    bytes::copy(&read[..k], &mut script[n..]);
+    script[n..n + k].copy_from_slice(&read[..k]);
     Reading {
         script: script,
         len: n + k,

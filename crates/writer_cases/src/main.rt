@@ -5,6 +5,8 @@
 //
 // The three slices of the reader are shown by their lengths and two sums, the writer's own whole, in hexadecimal, where it has up to 1,023 bytes, and so too where it
 // has more. docs/CASES.md says how the cases were made.
+#![tactic(auto)]
+
 mod answers;
 mod slices;
 
@@ -12,6 +14,9 @@ use cases::lines::line_end;
 use cases::print;
 use cases::sources::{count_of, expand, find};
 use slices::replay;
+use std::env::FillError;
+use std::io::Eprint;
+use std::rt::{Env, Files};
 
 fn print_case(line: &[u8]) {
     print(line);
@@ -42,18 +47,20 @@ fn print_cases(text: &[u8]) {
     }
 }
 
-fn print_file(path: &[u8]) {
+fn print_file<R: Files + Eprint>(rt: &R, path: &[u8]) {
     let mut buffer = io::large_buffer();
-    let n = cases::lines::read(path, &mut buffer);
+    let n = cases::lines::read(rt, path, &mut buffer);
     print_cases(&buffer[..n]);
 }
 
-fn main() {
-    let mut i: usize = 1;
-    while i < os::arg_count() {
+// An argument that is too long names no file.
+fn main(rt: HostRuntime) {
+    for i in 1..usize::MAX {
         let mut path = io::buffer();
-        let n = os::arg(i, &mut path);
-        print_file(&path[..n]);
-        i += 1;
+        match rt.arg(i, &mut path) {
+            Ok(n) => print_file(&rt, &path[..n]),
+            Err(FillError::TooLong) => print_file(&rt, b""),
+            Err(FillError::NotPresent) => return,
+        }
     }
 }
