@@ -1,4 +1,4 @@
-//! Tells the linker where the library is, where `rt staticlib ffi` puts it or in $STATICLIB, and compiles the bounds.
+//! Tells the linker where the library is, where `tools/staticlib.sh` puts it or in $STATICLIB, and compiles the bounds.
 
 use std::process::Command;
 

@@ -3,6 +3,6 @@
 # two minutes where the reader is proved already.
 set -eu
 cd "$(dirname "$0")/.."
-rt staticlib ffi
+tools/staticlib.sh
 cargo build --offline --release --quiet --manifest-path bench/Cargo.toml --target-dir target/bench
 exec target/bench/release/bench target/bench/sources

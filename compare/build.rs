@@ -1,4 +1,4 @@
-//! Tells the linker where the library is that the driver links: where `rt staticlib ffi` puts it, or in $STATICLIB.
+//! Tells the linker where the library is that the driver links: where `tools/staticlib.sh` puts it, or in $STATICLIB.
 
 fn main() {
     let root = std::env::var("CARGO_MANIFEST_DIR").expect("cargo sets it");

@@ -1,6 +1,6 @@
 """Compares the reader's trees with CPython's, on generated sources that both accept.
 
-    rt staticlib ffi
+    tools/staticlib.sh
     python3 compare/cpython.py [--count N] [--seed S] [--library FILE]
 
 Each source of python_sources.py is read by CPython, whose nodes and tokens python_tree.py puts into the words of document 01, and by the reader through
@@ -13,7 +13,7 @@ compares tools/reference in the same way, the reader in Python from which other 
 
     python3 compare/cpython.py --cases crates/python_cases
 
-writes the fixed sample that `rt check python_cases` replays, with what CPython says of it. This runs no program of this repository.
+writes the fixed sample that `rt ci` replays, with what CPython says of it. This runs no program of this repository.
 """
 import argparse
 import collections
@@ -43,7 +43,7 @@ DEPARTURES = [
 def build(library):
     """The driver that reads sources through the library."""
     if not os.path.exists(library):
-        sys.exit(f"no {library}: rt staticlib ffi writes it")
+        sys.exit(f"no {library}: tools/staticlib.sh writes it")
     folder = os.path.join(ROOT, "target", "compare")
     os.makedirs(folder, exist_ok=True)
     driver = os.path.join(folder, "words")

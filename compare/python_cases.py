@@ -1,4 +1,4 @@
-"""The fixed sample that `rt check python_cases` replays: its data files, `args`, and `stdout` with what CPython says of each source."""
+"""The fixed sample that `rt ci` replays: its data files, `args`, and `stdout` with what CPython says of each source."""
 import os
 
 from python_rows import BINARY, commas, floats, nested, systematic, wide

@@ -1,6 +1,6 @@
 """Compares a library's answers with those of tools/reference, on generated sources, many of which are cut short or refused.
 
-    rt staticlib ffi
+    tools/staticlib.sh
     python3 compare/reference.py [--count N] [--seed S] [--library FILE]
 
 The library is the verified one, or the plain reader of compare/ in its place: compare/plain.sh, and --library target/plain/libffi.a. All six numbers of the

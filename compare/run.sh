@@ -3,7 +3,7 @@
 # --seconds N, --count N, --seed S).
 set -eu
 cd "$(dirname "$0")/.."
-rt staticlib ffi
+tools/staticlib.sh
 cargo build --offline --release --quiet --manifest-path compare/Cargo.toml --target-dir target/compare
 if [ $# -eq 0 ]; then set -- --seconds 60; fi
 exec target/compare/release/compare "$@"

@@ -13,7 +13,7 @@ case ${1:-} in
 --alone | --write) STATICLIB=$plain ;;
 esac
 if [ -z "${STATICLIB:-}" ]; then
-    rt staticlib ffi >&2
+    tools/staticlib.sh >&2
     STATICLIB=$PWD/target/staticlib
 elif [ "$STATICLIB" = "$plain" ]; then
     compare/plain.sh

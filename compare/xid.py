@@ -26,7 +26,7 @@ def tables():
     """The version of the tables, and the code points of each."""
     text = open(TABLES, encoding="utf8").read()
     out = []
-    for name in ("xidStart", "xidContinue"):
+    for name in ("xid_start", "xid_continue"):
         bounds = [int(n, 16) for n in re.findall(r"0x([0-9A-F]+)", text.split(name + " =")[1].split("[]")[0])]
         out.append({c for low, high in zip(bounds[::2], bounds[1::2]) for c in range(low, high + 1)})
     return [re.search(r"version ([0-9.]+)", text)[1]] + out

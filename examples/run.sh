@@ -9,8 +9,8 @@
 # It wants rt, cc (gcc or clang) and cargo, and no registry.
 set -eu
 cd "$(dirname "$0")/.."
-rt staticlib ffi >/dev/null
-rt check tarbucket >/dev/null
+tools/staticlib.sh >/dev/null
+tools/program.sh >/dev/null
 work=target/examples
 rm -rf "$work"
 mkdir -p "$work"

@@ -3,7 +3,7 @@
  * One function reads a script, one writes it back in its standard text, and one tells whether a text is UTF-8. They have no state, allocate nothing, and use
  * only the memory that is lent to them; they end on every input of bytes.
  *
- *     rt staticlib ffi                          (writes target/staticlib/libffi.a, for x86-64 Linux)
+ *     tools/staticlib.sh                          (writes target/staticlib/libffi.a, for x86-64 Linux)
  *     cc -Iinclude walk.c target/staticlib/libffi.a -o walk
  *
  * n is the length of the source in bytes, a word is 32 bits unless 64 are said. "None" is TARBUCKET_NONE where a node number is held.

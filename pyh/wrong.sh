@@ -7,7 +7,7 @@
 set -eu
 files=" $* "
 cd "$(dirname "$0")/.."
-rt staticlib ffi >/dev/null
+tools/staticlib.sh >/dev/null
 root=$PWD
 out=$root/target/wrong_pyh
 export TARBUCKET_LIB="$root/target/staticlib"

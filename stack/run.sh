@@ -4,6 +4,6 @@
 set -eu
 cd "$(dirname "$0")/.."
 mkdir -p target/stack
-rt staticlib ffi > target/stack/rt.log 2>&1 || { tail -n 20 target/stack/rt.log; exit 1; }
+tools/staticlib.sh > target/stack/rt.log 2>&1 || { tail -n 20 target/stack/rt.log; exit 1; }
 cargo build --offline --release --quiet --manifest-path stack/Cargo.toml --target-dir target/stack
 exec target/stack/release/stack

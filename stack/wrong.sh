@@ -6,7 +6,7 @@ set -eu
 cd "$(dirname "$0")/.."
 out=$PWD/target/stack-wrong
 mkdir -p "$out"
-rt staticlib ffi > "$out/rt.log" 2>&1 || { tail -n 20 "$out/rt.log"; exit 1; }
+tools/staticlib.sh > "$out/rt.log" 2>&1 || { tail -n 20 "$out/rt.log"; exit 1; }
 passed=0 failed=0
 
 # verdict STATUS WHAT SAID: counts it, and shows what the program said

@@ -5,7 +5,8 @@
     rt ci > ci.log; tools/gate_times.py ci.log --write    puts it into docs/PERFORMANCE.md, between the two comments there
 
 --crates FILE and --page FILE stand for crates.txt and docs/PERFORMANCE.md. A table is written of a whole and green run alone: the last line is
-`N passed, 0 failed`, and N is the number of crates and edits that were found. Every line of another form is passed over.
+`N passed, 0 failed`, and N is the number of crates and edits that were found. Every line of another form is passed over. The logs are those of the
+older Rattle (docs/PORT.md): today's `rt ci` prints no seconds.
 """
 import argparse
 import os
@@ -56,7 +57,7 @@ def levels(path):
     for line in open(path, encoding="utf8"):
         name, colon, deps = line.split("#")[0].partition(":")
         if colon:
-            needs[name.strip()] = deps.split()
+            needs[name.split()[0]] = deps.split()
 
     def level(name):
         return max([level(d) + 1 for d in needs.get(name, []) if d in needs], default=0)

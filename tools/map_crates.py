@@ -55,12 +55,12 @@ def look(root, box):
 
 
 def read(root):
-    """The rooms of crates.txt, lowest first. `## ROOM: WHAT IT DOES` opens one, `NAME: NEEDS` is a crate, `# NAME/: NEEDS` a folder outside the proof."""
+    """The rooms of crates.txt, lowest first. `## ROOM: WHAT IT DOES` opens one, `NAME: NEEDS` is a crate (`NAME staticlib: NEEDS` a static library), `# NAME/: NEEDS` a folder outside the proof."""
     rooms = []
     for number, line in enumerate(open(os.path.join(root, "crates.txt"), encoding="utf8"), 1):
         heading = re.match(r"## *([^:]+?) *(?:: *(.*?))? *$", line)
         folder = re.match(r"# *([\w.-]+/): *(.*)", line)
-        crate = re.match(r"(\w+) *: *(.*)", line.split("#")[0])
+        crate = re.match(r"(\w+)(?: +staticlib)? *: *(.*)", line.split("#")[0])
         if heading:
             rooms.append(Room(heading.group(1), heading.group(2) or ""))
         elif (folder or crate) and not rooms:

@@ -135,7 +135,7 @@ def folder(program):
 
 
 def no_reader(program, script, ignored):
-    """Standard output is a pipe that nobody reads; the signal is ignored or ends the program."""
+    """Standard output is a pipe that nobody reads; the signal is ignored or at its default, and the program ignores it itself."""
     reads, writes = os.pipe()
     os.close(reads)
     before = signal.signal(signal.SIGPIPE, signal.SIG_IGN)
@@ -197,15 +197,15 @@ def cases(program, work):
     for size in [1, 512, 1023]:
         yield f"1,024 bytes, {size:,} and then the rest", two(program, LONGEST + b";", size), (0, TOO_LONG, b"")
     yield "3,000 bytes, in pieces of 512", pieces(program, b"a;" * 1500, 512), (0, TOO_LONG, b"")
-    yield "a folder", folder(program), (0, b"", INPUT + b"Is a directory\n")
-    yield "no standard input", shut(program, longest, "<&-"), (0, b"", INPUT + b"Bad file descriptor\n")
-    yield "a read that fails at first", waiting(program, b""), (0, b"", INPUT + b"Resource temporarily unavailable\n")
-    yield "a read that fails after bytes", waiting(program, CHAIN), (0, b"", INPUT + b"Resource temporarily unavailable\n")
-    yield "a terminal that hangs up", hung_up(program, CHAIN), (0, b"", INPUT + b"Input/output error\n")
-    yield "a full device", opened(program, longest, "/dev/full"), (0, b"", OUTPUT + b"No space left on device\n")
-    yield "no standard output", shut(program, longest, ">&-"), (0, b"", OUTPUT + b"Bad file descriptor\n")
-    yield "no reader, the signal ignored", no_reader(program, longest, True), (0, b"", OUTPUT + b"Broken pipe\n")
-    yield "no reader, ended by the signal", no_reader(program, longest, False), (-signal.SIGPIPE, b"", b"")
+    yield "a folder", folder(program), (0, b"", INPUT + b"Is a directory (os error 21)\n")
+    yield "no standard input", shut(program, longest, "<&-"), (0, b"", INPUT + b"Bad file descriptor (os error 9)\n")
+    yield "a read that fails at first", waiting(program, b""), (0, b"", INPUT + b"Resource temporarily unavailable (os error 11)\n")
+    yield "a read that fails after bytes", waiting(program, CHAIN), (0, b"", INPUT + b"Resource temporarily unavailable (os error 11)\n")
+    yield "a terminal that hangs up", hung_up(program, CHAIN), (0, b"", INPUT + b"Input/output error (os error 5)\n")
+    yield "a full device", opened(program, longest, "/dev/full"), (0, b"", OUTPUT + b"No space left on device (os error 28)\n")
+    yield "no standard output", shut(program, longest, ">&-"), (0, b"", OUTPUT + b"Bad file descriptor (os error 9)\n")
+    yield "no reader, the signal ignored", no_reader(program, longest, True), (0, b"", OUTPUT + b"Broken pipe (os error 32)\n")
+    yield "no reader, the signal at its default", no_reader(program, longest, False), (0, b"", OUTPUT + b"Broken pipe (os error 32)\n")
     yield "a narrow pipe, read slowly", narrow(program, longest), (0, listed, b"")
 
 
@@ -242,7 +242,7 @@ def main():
         return 2
     program = os.environ.get("PROGRAM", BUILT)
     if program == BUILT:
-        subprocess.run(["rt", "check", "tarbucket"], cwd=ROOT, check=True, stdout=subprocess.DEVNULL)
+        subprocess.run([os.path.join(ROOT, "tools", "program.sh")], check=True, stdout=subprocess.DEVNULL)
     with tempfile.TemporaryDirectory() as work:
         if sys.argv[1:]:
             return 1 if wrong(program, work) else 0

@@ -4,6 +4,7 @@
 
    KIND is `right`, `reads_once`, `loses_a_read`, `stops_at_the_limit`, `a_failed_read_ends_the_input` or `a_failed_write_is_silent`. */
 #define _GNU_SOURCE
+#include <errno.h>
 #include <fcntl.h>
 #include <stdio.h>
 #include <string.h>
@@ -21,7 +22,7 @@ int main(int argc, char **argv) {
         if (got > 0 && !strcmp(kind, "loses_a_read"))
             got = read(0, script + n, most - n);
         if (got < 0 && strcmp(kind, "a_failed_read_ends_the_input")) {
-            perror("tarbucket: standard input");
+            fprintf(stderr, "tarbucket: standard input: %s (os error %d)\n", strerror(errno), errno);
             return 0;
         }
         if (got <= 0)

@@ -15,7 +15,7 @@ import sys
 HERE = os.path.dirname(os.path.dirname(os.path.abspath(__file__)))
 WIDTH = 3  # ranges in a row
 FILE = "DerivedCoreProperties.txt"
-CLASSES = (("XID_Start", "xidStart", "start"), ("XID_Continue", "xidContinue", "continuation"))
+CLASSES = (("XID_Start", "xid_start", "start"), ("XID_Continue", "xid_continue", "continuation"))
 
 
 def ranges(lines, wanted):
@@ -64,7 +64,7 @@ def definition(name, says, found):
 def specs(version, tables):
     head = "-- The bounds of the ranges of %s (%s of the Unicode Character Database, version %s): first, last, first, last.\n"
     head %= (" and ".join(c[0] for c in CLASSES), FILE, version)
-    text = head + "-- Made by tools/xid.py. Assumes nothing.\nuse Prim.Native.Nat.{ℕ}\nuse mathlib.Core.List.{List, [], _∷_}\n"
+    text = head + "-- Made by tools/xid.py. Assumes nothing.\nuse Rattle.std.specs.Prelude.{ℕ, List, [], ◌∷◌}\n"
     for (prop, name, _), found in zip(CLASSES, tables):
         text += "\n" + definition(name, "%s: %d ranges" % (prop, len(found)), found)
     return text
@@ -78,37 +78,34 @@ def cut(found):
 
 def code(version, prop, name, found):
     text = "// The ranges of %s, Unicode %s, %d to a row. Each `match` is compiled to a table in read-only memory. Made by tools/xid.py.\n" % (prop, version, WIDTH)
-    text += "ghost use mathlib.Core.Path.{_≡_};\nghost use Prim.Native.Nat.{_≤_, _<_};\n"
-    text += "ghost use Rattle·xid·specs.specs.Ranges.{rowOf};\nghost use Rattle·xid·specs.specs.Tables.{%s};\n" % name
-    text += "ghost use Rattle·xid·specs.specs.Row.{bounds};\nuse crate::row::Row;\n\npub(crate) const ROWS: usize = %d;\n" % len(rows(found))
+    text += "ghost use Rattle.std.specs.Prelude.{◌≡◌, ◌≤◌, ◌<◌};\nghost use Rattle.xid.specs.Ranges.{row_of};\n"
+    text += "ghost use Rattle.xid.specs.Tables.{%s};\nghost use Rattle.xid.specs.Row.{bounds};\n\n" % name
+    text += "use crate::row::Row;\n\npub(crate) const ROWS: usize = %d;\n" % len(rows(found))
     for function, low, high in cut(found):
-        text += "\nfn %s(i: usize) -> Row\n    requires { ⌜ (%d ≤ i) × (i < %d) ⌝ }\n" % (function, low, high)
-        text += "    ensures { λ r. ⌜ bounds r ≡ rowOf %s i ⌝ }\n{\n    match i {\n" % name
+        text += "\nfn %s(i: usize) -> Row\n    requires { (%d ≤ i) × (i < %d) }\n" % (function, low, high)
+        text += "    ensures { bounds result ≡ row_of %s i }\n{\n    match i {\n" % name
         for i in range(low, high):
             text += "        %s => Row(%s),\n" % (i if i + 1 < high else "_", numbers(rows(found)[i], ", "))
         text += "    }\n}\n"
     (first, _, middle), (second, _, _) = cut(found)
-    text += "\n// The ranges 3 i to 3 i + 2.\npub(crate) fn row_at(i: usize) -> Row\n    requires { ⌜ i < %d ⌝ }\n" % len(rows(found))
-    text += "    ensures { λ r. ⌜ bounds r ≡ rowOf %s i ⌝ }\n{\n    if i < %d { %s(i) } else { %s(i) }\n}\n" % (name, middle, first, second)
+    text += "\n// The ranges 3 i to 3 i + 2.\npub(crate) fn row_at(i: usize) -> Row\n    requires { i < %d }\n" % len(rows(found))
+    text += "    ensures { bounds result ≡ row_of %s i }\n{\n    if i < %d { %s(i) } else { %s(i) }\n}\n" % (name, middle, first, second)
     return text
 
 
 def proof(name, module, function, low, high):
-    lemma = function.replace("_", "-")
-    path = "Rattle·xid·proofs.proofs.%s.%s" % (module, function)
     text = "-- `xid::%s::%s` meets its contract: at each row antt computes its bounds in the table. Made by tools/xid.py.\n" % (module, function)
-    text += "-- Assumes nothing.\nuse mathlib.Core.Path.{_≡_, sym, ap}\nuse mathlib.Core.List.{[], _∷_}\nuse Prim.Native.Nat.{ℕ}\nuse lib.Dec.{eqb}\n"
-    text += "use borrow.Author.Tests.{eqb-true}\nuse Rattle·source.proofs.Ranges.{arm}\nuse Rattle·xid·specs.specs.Ranges.{rowOf}\n"
-    text += "use Rattle·xid·specs.specs.Tables.{%s}\nuse %s.Statement.{statement}\nuse %s.Tie as tie\n\n" % (name, path, path)
-    text += "at : (i k : ℕ) → i ≡ k → rowOf %s k ≡ rowOf %s i\nat i k e = sym (ap (rowOf %s) e)\n\n" % (name, name, name)
-    last = "returns-%d" % (high - low)
-    text += "%s : tie.Need-%s\nunfolding %s\n%s c =\n    let i = c .before .args .i in\n" % (last, last, name, last)
-    text += "    at i %d (eqb-true i %d (arm (%s ∷ []) (λ (x : ℕ). eqb x %d) %d %d tt i (c .before .pre .0) (c .before .pre .1) (c .match .rest)))\n\n" % (
-        high - 1, high - 1, " ∷ ".join(str(i) for i in range(high - 2, low - 1, -1)), high - 1, low, high - low)
-    text += "pub %s-spec : {M : Type 1} → statement M\nunfolding %s\n%s-spec =\n    tie.close\n    (tie.spec\n" % (lemma, name, lemma)
-    for n, i in enumerate(range(low, high - 1)):
-        text += "    (λ c. at (c .before .args .i) %d (c .match .keys%d))\n" % (i, n + 1)
-    return text + "    %s)\n" % last
+    text += "use mathlib.Core.Path.{◌≡◌, sym, ap}\nuse mathlib.Core.List.{[], ◌∷◌}\nuse Prim.Native.Nat.{ℕ}\nuse lib.Dec.{eqb}\n"
+    text += "use borrow.Author.Tests.{eqb-true}\nuse Rattle.source.proofs.Ranges.{arm}\nuse Rattle.xid.specs.Ranges.{row_of}\n"
+    text += "use Rattle.xid.specs.Tables.{%s}\nuse Rattle.xid.proofs.%s.%s.Goals as goal\n\n" % (name, module, function)
+    text += "at : (i k : ℕ) → i ≡ k → row_of %s k ≡ row_of %s i\nat i k e = sym (ap (row_of %s) e)\n\n" % (name, name, name)
+    others = " ∷ ".join(str(i) for i in range(high - 2, low - 1, -1))
+    text += "pub returns-in_default : goal.returns-in_default\nunfolding %s\nreturns-in_default c =\n    let i = c.args.i in\n" % name
+    text += "    at i %d (eqb-true i %d (arm (%s ∷ []) (λ (x : ℕ). eqb x %d) %d %d tt i c.requires.0 c.requires.1 c.in_default.in_default-own.rest))\n" % (
+        high - 1, high - 1, others, high - 1, low, high - low)
+    for i in range(low, high - 1):
+        text += "\npub returns-in-%d : goal.returns-in-%d\nunfolding %s\nreturns-in-%d c = at c.args.i %d c.in-%d.is\n" % (i, i, name, i, i, i)
+    return text
 
 
 def main():
@@ -121,7 +118,7 @@ def main():
     for (prop, name, module), found in zip(CLASSES, tables):
         files["src/%s.rt" % module] = code(version, prop, name, found)
         for function, low, high in cut(found):
-            files["proofs/%s/%s/Proof.antt" % (module, function)] = proof(name, module, function, low, high)
+            files["proofs/%s/%s/Answers.antt" % (module, function)] = proof(name, module, function, low, high)
     for name, text in files.items():
         path = os.path.join(root, "crates", "xid", name)
         os.makedirs(os.path.dirname(path), exist_ok=True)

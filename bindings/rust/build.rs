@@ -1,4 +1,4 @@
-// Links the archive that `rt staticlib ffi` writes: in the folder that TARBUCKET_LIB names, or else in target/staticlib of the repository.
+// Links the archive that `tools/staticlib.sh` writes: in the folder that TARBUCKET_LIB names, or else in target/staticlib of the repository.
 fn main() {
     let here = std::env::var("CARGO_MANIFEST_DIR").unwrap();
     let dir = std::env::var("TARBUCKET_LIB").unwrap_or(format!("{here}/../../target/staticlib"));
