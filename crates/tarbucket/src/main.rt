@@ -3,7 +3,7 @@
 // written.
 #![tactic(auto)]
 
-ghost use Rattle.std.specs.Prelude.{◌≤◌, IfOk};
+ghost use Rattle.std.specs.Prelude.{◌≡◌, ◌≤◌, IfOk, MatchResult, pos, negsuc};
 ghost use Rattle.shell.specs.Input.{Moved};
 
 use std::io::{Eprint, Error, Read, Result, Write};
@@ -16,7 +16,8 @@ fn fail(rt: &impl Eprint, what: &str, error: &Error) {
 // What a read answered, as one number: how many bytes it put into the chunk, or -1 where it failed.
 fn count(rt: &impl Eprint, got: Result<usize>) -> isize
     requires { IfOk got (λ n. n ≤ 1024) }
-    ensures { Moved 1024 result }
+    ensures moved { Moved 1024 result }
+    ensures value { MatchResult got (λ n. result ≡ pos n) (λ _. result ≡ negsuc 0) }
 {
     match got {
         Ok(n) => n as isize,
