@@ -8,7 +8,8 @@ use Rattle.shell.specs.declared.Stage.{Stage}
 use Rattle.shell.specs.declared.Stage.TheVariants.{Open, Whole, Longer, Failed}
 use Rattle.shell.specs.declared.Reading.{Reading}
 
--- what a call that is handed n bytes may answer: -1, or how many bytes it moved, at most n
+-- What a read that is lent n bytes may answer: how many bytes it put there, or -1 where it failed (POSIX, `read`: "the number of bytes actually read",
+-- which "shall never be greater than nbyte"; "Otherwise, the functions shall return -1")
 abbrev pub Moved : ℕ → ℤ → Type 0
 Moved n (pos k) = k ≤ n
 Moved n (negsuc k) = k ≡ 0
