@@ -6,7 +6,7 @@
 
 A table is the list of its ranges' bounds, first and last, ascending. Ranges that touch are one range, but for the first few such pairs of the file: these
 stay two, so that the number of ranges is a multiple of the three that a row of the code has. The same numbers go to specs/Tables.antt, which defines the
-classes, and to the rows of src/start.rt and src/continuation.rt; the proofs of the rows' functions, an argument for each row, are made too.
+classes, and to the tables of src/start.rt and src/continuation.rt, whose rows antt joins again to the definitions (crates/xid/proofs/table).
 """
 import os
 import re
@@ -70,42 +70,10 @@ def specs(version, tables):
     return text
 
 
-def cut(found):
-    """Two parts of the rows, so that no function has many more than a hundred arms: the name of each, its first row and its end."""
-    count = len(rows(found))
-    return (("low_rows", 0, count // 2), ("high_rows", count // 2, count))
-
-
-def code(version, prop, name, found):
-    text = "// The ranges of %s, Unicode %s, %d to a row. Each `match` is compiled to a table in read-only memory. Made by tools/xid.py.\n" % (prop, version, WIDTH)
-    text += "ghost use Rattle.std.specs.Prelude.{◌≡◌, ◌≤◌, ◌<◌};\nghost use Rattle.xid.specs.Ranges.{row_of};\n"
-    text += "ghost use Rattle.xid.specs.Tables.{%s};\nghost use Rattle.xid.specs.Row.{bounds};\n\n" % name
-    text += "use crate::row::Row;\n\npub(crate) const ROWS: usize = %d;\n" % len(rows(found))
-    for function, low, high in cut(found):
-        text += "\nfn %s(i: usize) -> Row\n    requires { (%d ≤ i) × (i < %d) }\n" % (function, low, high)
-        text += "    ensures { bounds result ≡ row_of %s i }\n{\n    match i {\n" % name
-        for i in range(low, high):
-            text += "        %s => Row(%s),\n" % (i if i + 1 < high else "_", numbers(rows(found)[i], ", "))
-        text += "    }\n}\n"
-    (first, _, middle), (second, _, _) = cut(found)
-    text += "\n// The ranges 3 i to 3 i + 2.\npub(crate) fn row_at(i: usize) -> Row\n    requires { i < %d }\n" % len(rows(found))
-    text += "    ensures { bounds result ≡ row_of %s i }\n{\n    if i < %d { %s(i) } else { %s(i) }\n}\n" % (name, middle, first, second)
-    return text
-
-
-def proof(name, module, function, low, high):
-    text = "-- `xid::%s::%s` meets its contract: at each row antt computes its bounds in the table. Made by tools/xid.py.\n" % (module, function)
-    text += "use mathlib.Core.Path.{◌≡◌, sym, ap}\nuse mathlib.Core.List.{[], ◌∷◌}\nuse Prim.Native.Nat.{ℕ}\nuse lib.Dec.{eqb}\n"
-    text += "use borrow.Author.Tests.{eqb-true}\nuse Rattle.source.proofs.Ranges.{arm}\nuse Rattle.xid.specs.Ranges.{row_of}\n"
-    text += "use Rattle.xid.specs.Tables.{%s}\nuse Rattle.xid.proofs.%s.%s.Goals as goal\n\n" % (name, module, function)
-    text += "at : (i k : ℕ) → i ≡ k → row_of %s k ≡ row_of %s i\nat i k e = sym (ap (row_of %s) e)\n\n" % (name, name, name)
-    others = " ∷ ".join(str(i) for i in range(high - 2, low - 1, -1))
-    text += "pub returns-in_default : goal.returns-in_default\nunfolding %s\nreturns-in_default c =\n    let i = c.args.i in\n" % name
-    text += "    at i %d (eqb-true i %d (arm (%s ∷ []) (λ (x : ℕ). eqb x %d) %d %d tt i c.requires.0 c.requires.1 c.in_default.in_default-own.rest))\n" % (
-        high - 1, high - 1, others, high - 1, low, high - low)
-    for i in range(low, high - 1):
-        text += "\npub returns-in-%d : goal.returns-in-%d\nunfolding %s\nreturns-in-%d c = at c.args.i %d c.in-%d.is\n" % (i, i, name, i, i, i)
-    return text
+def code(version, prop, found):
+    text = "// The ranges of %s, Unicode %s, %d to a row. Made by tools/xid.py.\nuse crate::row::Row;\n\n" % (prop, version, WIDTH)
+    text += "pub(crate) static ROWS: [Row; %d] = [\n" % len(rows(found))
+    return text + "".join("    Row(%s),\n" % numbers(row, ", ") for row in rows(found)) + "];\n"
 
 
 def main():
@@ -115,10 +83,8 @@ def main():
     version = re.match(r"# DerivedCoreProperties-([0-9.]+)\.txt", lines[0])[1]
     tables = [ranges(lines, prop) for prop, _, _ in CLASSES]
     files = {"specs/Tables.antt": specs(version, tables)}
-    for (prop, name, module), found in zip(CLASSES, tables):
-        files["src/%s.rt" % module] = code(version, prop, name, found)
-        for function, low, high in cut(found):
-            files["proofs/%s/%s/Answers.antt" % (module, function)] = proof(name, module, function, low, high)
+    for (prop, _, module), found in zip(CLASSES, tables):
+        files["src/%s.rt" % module] = code(version, prop, found)
     for name, text in files.items():
         path = os.path.join(root, "crates", "xid", name)
         os.makedirs(os.path.dirname(path), exist_ok=True)

@@ -11,6 +11,10 @@ token_area n = 3 * (n + 1)
 unfoldable pub area : ℕ → List ℕ → List ℕ → List ℕ
 area size filled before = filled ++ replicate (size - length filled) 0 ++ drop size before
 
--- zeros from one place up to another, all else as it was
-unfoldable pub zeroed : ℕ → ℕ → List ℕ → List ℕ
-zeroed from to l = take from l ++ replicate (to - from) 0 ++ drop to l
+-- the value x from one place up to another, all else as it was
+unfoldable pub filled_with : {T : Type 0} → T → ℕ → ℕ → List T → List T
+filled_with x from to l = take from l ++ replicate (to - from) x ++ drop to l
+
+-- zeros there
+abbrev pub zeroed : ℕ → ℕ → List ℕ → List ℕ
+zeroed from to l = filled_with 0 from to l

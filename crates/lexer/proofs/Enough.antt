@@ -7,14 +7,12 @@ use Prim.Native.Nat.{ℕ, zero, suc, ◌+◌, ◌-◌, ◌%◌, ◌<◌, ◌≤�
 use native.Mathlib.Omega.{arith}
 use lib.Dec.{eqb, ltb}
 use lib.ListN.{length, replicate}
+use Rattle.std.specs.Prelude.{Option, Some, None, Result, Ok, Err}
 use Rattle.source.specs.Bytes.{part}
 use Rattle.token.specs.Code as Code
 use Rattle.tokens.specs.Token.{token}
-use Rattle.literal.specs.declared.Lexed.{Lexed}
-use Rattle.literal.specs.declared.Lexed.TheVariants.{Value, Refused}
-use Rattle.raw_token.specs.Table.{token_at_lem}
+use Rattle.raw_token.specs.Table.{raw_token, token_at_lem}
 use Rattle.raw_token.specs.declared.RawToken.{RawToken}
-use Rattle.raw_token.specs.declared.RawToken.TheVariants.{Found, NoMatch}
 use Rattle.raw_token.proofs.Within.{token_within}
 use Rattle.spacing.specs.Gap.{gap_end_lem}
 use Rattle.spacing.specs.Indentation.{step, indentation_at}
@@ -22,7 +20,9 @@ use Rattle.lexer.specs.Value.{value_of, text_of}
 use Rattle.lexer.specs.Scan.{prepend, mark, lexer, Rest, marks_then, indent_then, closed, value_then, found_then, token_then, scan_from, token_list}
 use Rattle.lexer.specs.declared.Lexer.{Lexer}
 use Rattle.spacing.specs.declared.line.Indentation.{Indentation}
-use Rattle.spacing.specs.declared.line.Indentation.TheVariants.{Blank, Level, No}
+use Rattle.spacing.specs.declared.line.Indentation.TheVariants.{Blank, Level}
+use Rattle.source.specs.declared.refusal.Refusal.{Refusal}
+use Rattle.literal.specs.declared.Literal.{Literal}
 use Rattle.spacing.proofs.Levels.{Known, indentation_known}
 
 -- a state that the scan can reach
@@ -42,11 +42,11 @@ module _ (s : List ℕ) (x : Lexer) (reached : Reached (length s) x) (rest rest'
   unfolding indent_then
   indent_alike h = by_flag x.flag (indentation_at s x.at x.top) (indentation_known s x.at x.top reached.0 reached.1)
     where
-      by_flag : (t : Bool) (i : Indentation) → Known (length s) x.at x.top i → cond t (marks_then rest x i) (rest x) ≡ cond t (marks_then rest' x i) (rest' x)
+      by_flag : (t : Bool) (i : Result Indentation Refusal) → Known (length s) x.at x.top i → cond t (marks_then rest x i) (rest x) ≡ cond t (marks_then rest' x i) (rest' x)
       by_flag false i k = h x (omega arith) reached
-      by_flag true (Blank end) k = h (lexer end true x.top x.count x.used) k.0 (k.1, reached.1)
-      by_flag true (Level end code n top) k = ap (prepend (replicate n (mark code x.at end)) []) (h (lexer end false top (x.count + n) x.used) k.0 (k.1, k.2))
-      by_flag true (No number place) k = refl
+      by_flag true (Ok (Blank end)) k = h (lexer end true x.top x.count x.used) k.0 (k.1, reached.1)
+      by_flag true (Ok (Level end code n top)) k = ap (prepend (replicate n (mark code x.at end)) []) (h (lexer end false top (x.count + n) x.used) k.0 (k.1, k.2))
+      by_flag true (Err r) k = refl
 
   pub token_alike : Alike (length s) (x.at + 1) rest rest' → token_then s rest x ≡ token_then s rest' x
   unfolding token_then
@@ -56,19 +56,19 @@ module _ (s : List ℕ) (x : Lexer) (reached : Reached (length s) x) (rest rest'
       start : ℕ
       start = gap_end_lem s x.at
 
-      by_value : (code end : ℕ) (bs : List ℕ) (v : Lexed) → start < end → end ≤ length s → value_then rest x code start end bs v ≡ value_then rest' x code start end bs v
-      by_value code end bs (Value v) a b =
+      by_value : (code end : ℕ) (bs : List ℕ) (v : Option Literal) → start < end → end ≤ length s → value_then rest x code start end bs v ≡ value_then rest' x code start end bs v
+      by_value code end bs (Some v) a b =
           ap (prepend (token code start end v ∷ []) bs)
           (h (lexer end (eqb code Code.Newline || x.flag) x.top (x.count + 1) (x.used + length bs)) (omega (arith, gap_from s x.at)) (b, reached.1))
-      by_value code end bs Refused a b = refl
+      by_value code end bs None a b = refl
 
-      by_token : (t : Bool) (k : RawToken) → ((code end : ℕ) → k ≡ Found code end → (start < end) × (end ≤ length s))
+      by_token : (t : Bool) (k : Option RawToken) → ((code end : ℕ) → k ≡ Some (raw_token code end) → (start < end) × (end ≤ length s))
           → cond t (found_then s rest x start k) (closed (length s) x) ≡ cond t (found_then s rest' x start k) (closed (length s) x)
       by_token false k w = refl
-      by_token true NoMatch w = refl
-      by_token true (Found code end) w =
-          let b = w code end refl in
-          by_value code end (text_of code (part s start end)) (value_of code (part s start end) x.used) b.0 b.1
+      by_token true None w = refl
+      by_token true (Some t) w =
+          let b = w t.code t.end refl in
+          by_value t.code t.end (text_of t.code (part s start t.end)) (value_of t.code (part s start t.end) x.used) b.0 b.1
 
 enough : (f g : ℕ) (s : List ℕ) (x : Lexer) → Reached (length s) x → length s - x.at < f → length s - x.at < g → scan_from f s x ≡ scan_from g s x
 unfolding scan_from

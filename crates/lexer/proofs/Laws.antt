@@ -14,22 +14,17 @@ use lib.Ieee.{Float}
 use lib.ListN.{length, get_or, take, length-append}
 use lib.Seq.{take-nil, take_at, drop_at}
 use borrow.Author.Tests.{ne_eqb}
+use Rattle.std.specs.Prelude.{ℤ, Option, Some, None}
 use Rattle.source.specs.Bytes.{part}
 use Rattle.strings.specs.Decoded.{decoded}
 use Rattle.token.specs.Code as Code
 use Rattle.tokens.specs.Token.{Token, token}
-use Rattle.numbers.specs.declared.decimal.Decimal.{Decimal}
-use Rattle.numbers.specs.declared.decimal.Decimal.TheVariants as D
-use Rattle.numbers.specs.declared.integer.Integer.{Integer}
-use Rattle.numbers.specs.declared.integer.Integer.TheVariants as I
 use Rattle.numbers.specs.Decimal.{decimal_of}
 use Rattle.numbers.specs.Integer.{integer_of}
 use Rattle.literal.specs.Literal.{of_integer, of_decimal, lex_integer_lem, lex_float_lem, lex_string_lem, unquoted}
 use Rattle.literal.specs.declared.Literal.{Literal}
 use Rattle.literal.specs.declared.Literal.TheVariants as L
-use Rattle.literal.specs.declared.Lexed.TheVariants.{Value}
-use Rattle.raw_token.specs.Table.{token_at_lem}
-use Rattle.raw_token.specs.declared.RawToken.TheVariants.{Found}
+use Rattle.raw_token.specs.Table.{raw_token, token_at_lem}
 use Rattle.raw_token.proofs.Within.{token_within}
 use Rattle.raw_token.proofs.Laws.{token_code, string_quotes}
 use Rattle.lexer.specs.Value.{value_of, text_of}
@@ -42,7 +37,7 @@ use Rattle.lexer.proofs.Promise.{Tokens, indent, dedent, raw, eof, promise}
 -- ---- the laws of a derivation
 
 -- a raw token is no mark
-pub raw_code : (s : List ℕ) (start code end : ℕ) → token_at_lem s start ≡ Found code end
+pub raw_code : (s : List ℕ) (start code end : ℕ) → token_at_lem s start ≡ Some (raw_token code end)
     → (1 ≤ code) × (code ≤ Code.Eof) × (code ≡ Code.Indent → ⊥) × (code ≡ Code.Dedent → ⊥) × (code ≡ Code.Eof → ⊥)
 raw_code s start code end e = let c = token_code s start code end e in go c.0 c.1
   where
@@ -150,7 +145,7 @@ coded {s} (raw {start} {code} {end} h k e f t) =
 coded {s} (eof h k) = more {t = mark Code.Eof (length s) (length s)} (record { least = omega arith; greatest = omega arith }) none
 
 -- a token with no value of its own, and no text
-mark_valued : (s : List ℕ) (code start end used : ℕ) {ts : List Token} {bs : List ℕ} → value_of code (part s start end) used ≡ Value L.None → text_of code (part s start end) ≡ []
+mark_valued : (s : List ℕ) (code start end used : ℕ) {ts : List Token} {bs : List ℕ} → value_of code (part s start end) used ≡ Some L.None → text_of code (part s start end) ≡ []
     → Valued s used ts bs → Valued s used (mark code start end ∷ ts) bs
 mark_valued s code start end used {ts} {bs} v e t =
     let n : used ≡ used + length (text_of code (part s start end)) = omega (arith, ap length e) in
@@ -164,24 +159,24 @@ valued (raw h k e f t) = Valued.more f (valued t)
 valued {s} {used} (eof h k) = mark_valued s Code.Eof (length s) (length s) used refl refl Valued.none
 
 -- a String's text stands behind the text before it, and a Float's value is that of its bytes
-held : (before l bs : List ℕ) (used code : ℕ) (v : Literal) → used ≡ length before → value_of code l used ≡ Value v → Held (before ++ (text_of code l ++ bs)) code l v
+held : (before l bs : List ℕ) (used code : ℕ) (v : Literal) → used ≡ length before → value_of code l used ≡ Some v → Held (before ++ (text_of code l ++ bs)) code l v
 unfolding value_of text_of lex_integer_lem lex_float_lem lex_string_lem
 held before l bs used code v u = go (eqb code Code.Bool) (eqb code Code.Int) (eqb code Code.Float) (eqb code Code.String) (integer_of l) (decimal_of l) refl refl
   where
     d : List ℕ
     d = decoded (unquoted l)
 
-    is : (text : List ℕ) (w : Literal) → Held text code l w → Value w ≡ Value v → Held text code l v
+    is : (text : List ℕ) (w : Literal) → Held text code l w → Some w ≡ Some v → Held text code l v
     is text w h e = let f : w ≡ v = cc in subst (Held text code l) f h
 
-    go : (a b c t : Bool) (i : Integer) (x : Decimal) → eqb code Code.Float ≡ c → decimal_of l ≡ x
-        → cond a (Value (L.Bool (eqb (get_or l 0 0) 84))) (cond b (of_integer i) (cond c (of_decimal x) (cond t (Value (L.String used (length d))) (Value L.None)))) ≡ Value v
+    go : (a b c t : Bool) (i : Option ℤ) (x : Option Float) → eqb code Code.Float ≡ c → decimal_of l ≡ x
+        → cond a (Some (L.Bool (eqb (get_or l 0 0) 84))) (cond b (of_integer i) (cond c (of_decimal x) (cond t (Some (L.String used (length d))) (Some L.None)))) ≡ Some v
         → Held (before ++ (cond t d [] ++ bs)) code l v
     go true b c t i x f g e = is (before ++ (cond t d [] ++ bs)) (L.Bool (eqb (get_or l 0 0) 84)) tt e
-    go false true c t (I.Value n) x f g e = is (before ++ (cond t d [] ++ bs)) (L.Int n) tt e
-    go false true c t I.OutOfRange x f g e = let z : ◌≡◌ {A = ℕ} 0 1 = cc in absurd (omega arith)
-    go false false true t i (D.Value n) f g e = is (before ++ (cond t d [] ++ bs)) (L.Float n) (record { coded = eqb→eq code Code.Float (rw f tt); value = g }) e
-    go false false true t i D.NotAdmitted f g e = let z : ◌≡◌ {A = ℕ} 0 1 = cc in absurd (omega arith)
+    go false true c t (Some n) x f g e = is (before ++ (cond t d [] ++ bs)) (L.Int n) tt e
+    go false true c t None x f g e = let z : ◌≡◌ {A = ℕ} 0 1 = cc in absurd (omega arith)
+    go false false true t i (Some n) f g e = is (before ++ (cond t d [] ++ bs)) (L.Float n) (record { coded = eqb→eq code Code.Float (rw f tt); value = g }) e
+    go false false true t i None f g e = let z : ◌≡◌ {A = ℕ} 0 1 = cc in absurd (omega arith)
     go false false false false i x f g e = is (before ++ bs) L.None tt e
     go false false false true i x f g e =
         is (before ++ (d ++ bs)) (L.String used (length d))
@@ -199,13 +194,13 @@ literals_held {s} {used} before u (raw {start} {code} {end} {v} {ts} {bs} h k e 
 literals_held {s} before u (eof h k) = more {t = mark Code.Eof (length s) (length s)} tt none
 
 -- Float's code has a Float's value
-has_float : (code : ℕ) (l : List ℕ) (used : ℕ) (v : Literal) → code ≡ Code.Float → value_of code l used ≡ Value v → (x : Float) × (v ≡ L.Float x)
+has_float : (code : ℕ) (l : List ℕ) (used : ℕ) (v : Literal) → code ≡ Code.Float → value_of code l used ≡ Some v → (x : Float) × (v ≡ L.Float x)
 unfolding lex_float_lem
 has_float code l used v e h = go (decimal_of l) (sym (value_float code l used e) ∙ h)
   where
-    go : (d : Decimal) → of_decimal d ≡ Value v → (x : Float) × (v ≡ L.Float x)
-    go (D.Value x) k = (x, cc)
-    go D.NotAdmitted k = let z : ◌≡◌ {A = ℕ} 0 1 = cc in absurd (omega arith)
+    go : (d : Option Float) → of_decimal d ≡ Some v → (x : Float) × (v ≡ L.Float x)
+    go (Some x) k = (x, cc)
+    go None k = let z : ◌≡◌ {A = ℕ} 0 1 = cc in absurd (omega arith)
 
 floats_coded : {s : List ℕ} (text : List ℕ) {used : ℕ} {ts : List Token} {bs : List ℕ} → Valued s used ts bs → Each (InText s text) ts → Each (FloatCoded s) ts
 floats_coded text Valued.none none = none

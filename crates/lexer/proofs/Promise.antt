@@ -11,15 +11,13 @@ use native.Mathlib.Omega.{arith}
 use lib.Dec.{eqb, ltb}
 use lib.ListN.{length, get_or, replicate}
 use borrow.Author.Tests.{eqb-true, ltb-false}
+use Rattle.std.specs.Prelude.{Option, Some, None, Result, Ok, Err}
 use Rattle.source.specs.Bytes.{part}
 use Rattle.token.specs.Code as Code
 use Rattle.tokens.specs.Token.{Token, token}
 use Rattle.literal.specs.declared.Literal.{Literal}
-use Rattle.literal.specs.declared.Lexed.{Lexed}
-use Rattle.literal.specs.declared.Lexed.TheVariants.{Value, Refused}
-use Rattle.raw_token.specs.Table.{token_at_lem}
+use Rattle.raw_token.specs.Table.{raw_token, token_at_lem}
 use Rattle.raw_token.specs.declared.RawToken.{RawToken}
-use Rattle.raw_token.specs.declared.RawToken.TheVariants.{Found, NoMatch}
 use Rattle.raw_token.proofs.Within.{token_within}
 use Rattle.spacing.specs.Gap.{gap_end_lem}
 use Rattle.spacing.specs.Indentation.{step, is_level, is_blank_line, level_of, spaces_end_lem, indentation_at}
@@ -27,7 +25,9 @@ use Rattle.lexer.specs.Value.{value_of, text_of}
 use Rattle.lexer.specs.Scan.{Scan, scanned, refused, prepend, mark, lexer, Rest, marks_then, indent_then, closed, value_then, found_then, token_then, scan_from, token_list}
 use Rattle.lexer.specs.declared.Lexer.{Lexer}
 use Rattle.spacing.specs.declared.line.Indentation.{Indentation}
-use Rattle.spacing.specs.declared.line.Indentation.TheVariants.{Blank, Level, No}
+use Rattle.spacing.specs.declared.line.Indentation.TheVariants.{Blank, Level}
+use Rattle.source.specs.Reasons.{refusal_at}
+use Rattle.source.specs.declared.refusal.Refusal.{Refusal}
 use Rattle.spacing.proofs.Levels.{Known, indentation_known}
 use Rattle.lexer.proofs.Enough.{Reached, gap_from}
 
@@ -39,7 +39,7 @@ pub data Tokens (s : List ℕ) : ℕ → ℕ → ℕ → ℕ → List Token → 
   dedent : {lo hi depth used start end : ℕ} {ts : List Token} {bs : List ℕ} → lo ≤ start → hi ≤ end → start ≤ end → end ≤ length s
       → Tokens s start end depth used ts bs → Tokens s lo hi (suc depth) used (mark Code.Dedent start end ∷ ts) bs
   raw : {lo hi depth used start code end : ℕ} {v : Literal} {ts : List Token} {bs : List ℕ} → lo ≤ start → hi ≤ start
-      → token_at_lem s start ≡ Found code end → value_of code (part s start end) used ≡ Value v
+      → token_at_lem s start ≡ Some (raw_token code end) → value_of code (part s start end) used ≡ Some v
       → Tokens s start end depth (used + length (text_of code (part s start end))) ts bs
       → Tokens s lo hi depth used (token code start end v ∷ ts) (text_of code (part s start end) ++ bs)
   eof : {lo hi used : ℕ} → lo ≤ length s → hi ≤ length s → Tokens s lo hi 0 used (mark Code.Eof (length s) (length s) ∷ []) []
@@ -73,12 +73,12 @@ MakesAll s rest = (y : Lexer) → Reached (length s) y → Makes s y.at (y.top /
 -- ---- a line's spaces
 
 -- the levels that marks open and close
-abbrev Moves : ℕ → ℕ → Indentation → Type 0
-Moves at top (Blank end) = Unit {0}
-Moves at top (Level end code marks top') =
+abbrev Moves : ℕ → ℕ → Result Indentation Refusal → Type 0
+Moves at top (Ok (Blank end)) = Unit {0}
+Moves at top (Ok (Level end code marks top')) =
     ((code ≡ Code.Indent) × (marks ≡ 1) × (top' / step ≡ suc (top / step)) × (at + step ≤ end))
     ⊎ ((code ≡ Code.Dedent) × (top / step ≡ marks + top' / step))
-Moves at top (No number place) = Unit {0}
+Moves at top (Err r) = Unit {0}
 
 level_moves : (at end top : ℕ) → top % step ≡ 0 → Moves at top (level_of at end top)
 unfolding level_of
@@ -86,7 +86,7 @@ level_moves at end top e =
     go (eqb (end - at) top) (ltb top (end - at)) (ltb-false top (end - at)) (eqb (end - at) (top + step)) (eqb-true (end - at) (top + step)) (is_level (end - at)) (eqb-true ((end - at) % step) 0)
   where
     go : (t u : Bool) → (u ≡ false → end - at ≤ top) → (v : Bool) → (v ≡ true → end - at ≡ top + step) → (w : Bool) → (w ≡ true → (end - at) % step ≡ 0)
-        → Moves at top (cond t (Level end Code.Dedent 0 top) (cond u (cond v (Level end Code.Indent 1 (end - at)) (No 7 at)) (cond w (Level end Code.Dedent ((top - (end - at)) / step) (end - at)) (No 8 at))))
+        → Moves at top (cond t (Ok (Level end Code.Dedent 0 top)) (cond u (cond v (Ok (Level end Code.Indent 1 (end - at))) (Err (refusal_at 7 at))) (cond w (Ok (Level end Code.Dedent ((top - (end - at)) / step) (end - at))) (Err (refusal_at 8 at)))))
     go true u f v g w h = inr (refl, omega arith)
     go false true f true g w h = let k = g refl in inl (refl, refl, omega arith, omega arith)
     go false true f false g w h = tt
@@ -100,7 +100,7 @@ indentation_moves s at top e = go (eqb b 9) (is_blank_line b)
     b : ℕ
     b = get_or s (spaces_end_lem s at) 0
 
-    go : (t u : Bool) → Moves at top (cond t (No 6 (spaces_end_lem s at)) (cond u (Blank (spaces_end_lem s at)) (level_of at (spaces_end_lem s at) top)))
+    go : (t u : Bool) → Moves at top (cond t (Err (refusal_at 6 (spaces_end_lem s at))) (cond u (Ok (Blank (spaces_end_lem s at))) (level_of at (spaces_end_lem s at) top)))
     go true u = tt
     go false true = tt
     go false false = level_moves at (spaces_end_lem s at) top e
@@ -120,8 +120,8 @@ module _ (s : List ℕ) (at end depth used : ℕ) (from : at ≤ end) (to : end 
   dedents_make k all e (refused number place) t = tt
 
 module _ (s : List ℕ) (x : Lexer) (reached : Reached (length s) x) (rest : Rest) (makes : MakesAll s rest) where
-  level_makes : (end code marks top : ℕ) → Known (length s) x.at x.top (Level end code marks top) → Moves x.at x.top (Level end code marks top)
-      → Makes s x.at (x.top / step) x.used (marks_then rest x (Level end code marks top))
+  level_makes : (end code marks top : ℕ) → Known (length s) x.at x.top (Ok (Level end code marks top)) → Moves x.at x.top (Ok (Level end code marks top))
+      → Makes s x.at (x.top / step) x.used (marks_then rest x (Ok (Level end code marks top)))
   level_makes end code marks top k (inl m) =
       let y = lexer end false top (x.count + 1) x.used in
       rw (m.0, m.1) (indent_makes s x.at end (x.top / step) x.used k.0 k.1 m.3 (rest y) (rw m.2 at (makes y (k.1, k.2))))
@@ -134,13 +134,13 @@ module _ (s : List ℕ) (x : Lexer) (reached : Reached (length s) x) (rest : Res
   indent-then =
       by_flag x.flag (indentation_at s x.at x.top) (indentation_known s x.at x.top reached.0 reached.1) (indentation_moves s x.at x.top reached.1)
     where
-      by_flag : (t : Bool) (i : Indentation) → Known (length s) x.at x.top i → Moves x.at x.top i → Makes s x.at (x.top / step) x.used (cond t (marks_then rest x i) (rest x))
+      by_flag : (t : Bool) (i : Result Indentation Refusal) → Known (length s) x.at x.top i → Moves x.at x.top i → Makes s x.at (x.top / step) x.used (cond t (marks_then rest x i) (rest x))
       by_flag false i k m = makes x reached
-      by_flag true (Blank end) k m =
+      by_flag true (Ok (Blank end)) k m =
           let y = lexer end true x.top x.count x.used in
           blank_makes s x.at end (x.top / step) x.used k.0 k.1 (rest y) (makes y (k.1, reached.1))
-      by_flag true (Level end code marks top) k m = level_makes end code marks top k m
-      by_flag true (No number place) k m = tt
+      by_flag true (Ok (Level end code marks top)) k m = level_makes end code marks top k m
+      by_flag true (Err r) k m = tt
 
   -- ---- a token, and the end
 
@@ -151,7 +151,7 @@ module _ (s : List ℕ) (x : Lexer) (reached : Reached (length s) x) (rest : Res
       start : ℕ
       start = gap_end_lem s x.at
 
-      token_makes : (code end : ℕ) → token_at_lem s start ≡ Found code end → (v : Literal) → value_of code (part s start end) x.used ≡ Value v
+      token_makes : (code end : ℕ) → token_at_lem s start ≡ Some (raw_token code end) → (v : Literal) → value_of code (part s start end) x.used ≡ Some v
           → (r : Scan) → Makes s end (x.top / step) (x.used + length (text_of code (part s start end))) r
           → Makes s x.at (x.top / step) x.used (prepend (token code start end v ∷ []) (text_of code (part s start end)) r)
       token_makes code end e v f (scanned ts bs) t =
@@ -159,19 +159,19 @@ module _ (s : List ℕ) (x : Lexer) (reached : Reached (length s) x) (rest : Res
           raw (gap_from s x.at) (gap_from s x.at) e f (earlier (omega arith) (le_refl end) t)
       token_makes code end e v f (refused number place) t = tt
 
-      by_value : (code end : ℕ) → token_at_lem s start ≡ Found code end → (v : Lexed) → value_of code (part s start end) x.used ≡ v
+      by_value : (code end : ℕ) → token_at_lem s start ≡ Some (raw_token code end) → (v : Option Literal) → value_of code (part s start end) x.used ≡ v
           → Makes s x.at (x.top / step) x.used (value_then rest x code start end (text_of code (part s start end)) v)
-      by_value code end e (Value v) f =
+      by_value code end e (Some v) f =
           let y = lexer end (eqb code Code.Newline || x.flag) x.top (x.count + 1) (x.used + length (text_of code (part s start end))) in
           token_makes code end e v f (rest y) (makes y ((token_within s start code end e).1, reached.1))
-      by_value code end e Refused f = tt
+      by_value code end e None f = tt
 
-      by_token : (t : Bool) (k : RawToken) → token_at_lem s start ≡ k → Makes s x.at (x.top / step) x.used (cond t (found_then s rest x start k) (closed (length s) x))
+      by_token : (t : Bool) (k : Option RawToken) → token_at_lem s start ≡ k → Makes s x.at (x.top / step) x.used (cond t (found_then s rest x start k) (closed (length s) x))
       by_token false k e =
           let n = length s in
           dedents (x.top / step) x.at x.at (x.top / step) reached.0 reached.0 (le_refl n) (le_refl n) (omega arith) (eof (le_refl n) (le_refl n))
-      by_token true NoMatch e = tt
-      by_token true (Found code end) e = by_value code end e (value_of code (part s start end) x.used) refl
+      by_token true None e = tt
+      by_token true (Some t) e = by_value t.code t.end e (value_of t.code (part s start t.end) x.used) refl
 
 -- ---- the scan
 

@@ -8,16 +8,15 @@ use native.Mathlib.Omega.{arith}
 use lib.Dec.{eqb}
 use lib.Ieee.{Float}
 use lib.ListN.{length, get_or, take}
+use Rattle.std.specs.Prelude.{Some}
 use Rattle.source.specs.Bytes.{part}
 use Rattle.numbers.specs.Decimal.{decimal_of}
-use Rattle.numbers.specs.declared.decimal.Decimal.TheVariants as D
 use Rattle.strings.specs.Decoded.{decoded}
 use Rattle.token.specs.Code as Code
 use Rattle.tokens.specs.Token.{Token}
 use Rattle.literal.specs.Literal.{unquoted}
 use Rattle.literal.specs.declared.Literal.{Literal}
 use Rattle.literal.specs.declared.Literal.TheVariants as L
-use Rattle.literal.specs.declared.Lexed.TheVariants.{Value}
 use Rattle.lexer.specs.Value.{value_of, text_of}
 use Rattle.lexer.specs.Scan.{mark}
 
@@ -72,13 +71,13 @@ bytes_of s t = part s t.start t.end
 -- each token has the value of its code, its bytes and the bytes of text before it, and the text is the tokens' one after the other
 pub data Valued (s : List ℕ) : ℕ → List Token → List ℕ → Type 0 where
   none : {used : ℕ} → Valued s used [] []
-  more : {used : ℕ} {t : Token} {ts : List Token} {bs : List ℕ} → value_of t.code (bytes_of s t) used ≡ Value t.literal
+  more : {used : ℕ} {t : Token} {ts : List Token} {bs : List ℕ} → value_of t.code (bytes_of s t) used ≡ Some t.literal
       → Valued s (used + length (text_of t.code (bytes_of s t))) ts bs → Valued s used (t ∷ ts) (text_of t.code (bytes_of s t) ++ bs)
 
 -- Float's code, and bytes of the value x
 pub record FloatOf (code : ℕ) (l : List ℕ) (x : Float) : Type 0 where
   pub coded : code ≡ Code.Float
-  pub value : decimal_of l ≡ D.Value x
+  pub value : decimal_of l ≡ Some x
 
 -- a literal of a token with this code and the bytes l: a String's place and length lie within the text, and what stands there is what l decodes to; a Float's
 -- code is Float's, and its value that of l

@@ -8,15 +8,14 @@ use native.Mathlib.Decide.{ℕ_discrete, dec_lt}
 use native.Mathlib.Omega.{arith}
 use lib.Dec.{eqb, ltb}
 use lib.ListN.{length, get_or}
-use borrow.Author.Tests.{ltb-true}
+use borrow.Author.Tests.{eqb-true, ltb-true}
+use Rattle.source.proofs.Ranges.{at_each}
+use Rattle.std.specs.Prelude.{Option, Some, None, Result, Ok, Err}
 use Rattle.source.specs.Bytes.{part}
 use Rattle.token.specs.Code as Code
 use Rattle.tokens.specs.Token.{Token, token}
-use Rattle.literal.specs.declared.Lexed.{Lexed}
-use Rattle.literal.specs.declared.Lexed.TheVariants.{Value, Refused}
-use Rattle.raw_token.specs.Table.{token_at_lem}
+use Rattle.raw_token.specs.Table.{raw_token, token_at_lem}
 use Rattle.raw_token.specs.declared.RawToken.{RawToken}
-use Rattle.raw_token.specs.declared.RawToken.TheVariants.{Found, NoMatch}
 use Rattle.raw_token.proofs.Within.{token_within}
 use Rattle.spacing.specs.Gap.{gap_end_lem}
 use Rattle.spacing.specs.Indentation.{step, is_blank_line, level_of, spaces_end_lem, indentation_at}
@@ -24,8 +23,11 @@ use Rattle.lexer.specs.Value.{value_of, text_of}
 use Rattle.lexer.specs.Scan.{Scan, scanned, refused, prepend, lexer, Rest, marks_then, indent_then, closed, value_then, found_then, token_then, scan_from, token_list}
 use Rattle.lexer.specs.declared.Lexer.{Lexer}
 use Rattle.spacing.specs.declared.line.Indentation.{Indentation}
-use Rattle.spacing.specs.declared.line.Indentation.TheVariants.{Blank, Level, No}
+use Rattle.spacing.specs.declared.line.Indentation.TheVariants.{Blank, Level}
+use Rattle.source.specs.Reasons.{number_of, reason_of, refusal_at}
+use Rattle.source.specs.declared.refusal.Refusal.{Refusal}
 use Rattle.spacing.proofs.Levels.{Known, indentation_known, spaces_within, level_same, level_deeper, level_far, level_back, level_between}
+use Rattle.literal.specs.declared.Literal.{Literal}
 use Rattle.lexer.proofs.Enough.{Reached, gap_from}
 
 -- a refusal's number and place
@@ -38,10 +40,10 @@ abbrev Sound : ℕ → Scan → Type 0
 Sound n (scanned ts bs) = Unit {0}
 Sound n (refused number place) = Refuses n number place
 
-abbrev Spaces : ℕ → Indentation → Type 0
-Spaces n (Blank end) = Unit {0}
-Spaces n (Level end code marks top) = Unit {0}
-Spaces n (No number place) = Refuses n number place
+abbrev Spaces : ℕ → Result Indentation Refusal → Type 0
+Spaces n (Ok (Blank end)) = Unit {0}
+Spaces n (Ok (Level end code marks top)) = Unit {0}
+Spaces n (Err r) = Refuses n (number_of r.reason) r.place
 
 sound_prepend : (n : ℕ) (ts : List Token) (bs : List ℕ) (r : Scan) → Sound n r → Sound n (prepend ts bs r)
 sound_prepend n ts bs (scanned us cs) h = tt
@@ -70,7 +72,7 @@ spaces_sound : (s : List ℕ) (at top : ℕ) → at ≤ length s → Spaces (len
 unfolding indentation_at
 spaces_sound s at top h = go (eqb (get_or s (spaces_end_lem s at) 0) 9) (is_blank_line (get_or s (spaces_end_lem s at) 0))
   where
-    go : (t u : Bool) → Spaces (length s) (cond t (No 6 (spaces_end_lem s at)) (cond u (Blank (spaces_end_lem s at)) (level_of at (spaces_end_lem s at) top)))
+    go : (t u : Bool) → Spaces (length s) (cond t (Err (refusal_at 6 (spaces_end_lem s at))) (cond u (Ok (Blank (spaces_end_lem s at))) (level_of at (spaces_end_lem s at) top)))
     go true u = record { least = omega arith; greatest = omega arith; within = (spaces_within s at h).1 }
     go false true = tt
     go false false = level_sound (length s) at (spaces_end_lem s at) top h
@@ -84,11 +86,11 @@ module _ (s : List ℕ) (x : Lexer) (reached : Reached (length s) x) (rest : Res
   unfolding indent_then
   indent_sound h = go x.flag (indentation_at s x.at x.top) (indentation_known s x.at x.top reached.0 reached.1) (spaces_sound s x.at x.top reached.0)
     where
-      go : (t : Bool) (i : Indentation) → Known (length s) x.at x.top i → Spaces (length s) i → Sound (length s) (cond t (marks_then rest x i) (rest x))
+      go : (t : Bool) (i : Result Indentation Refusal) → Known (length s) x.at x.top i → Spaces (length s) i → Sound (length s) (cond t (marks_then rest x i) (rest x))
       go false i k p = h x (omega arith) reached
-      go true (Blank end) k p = h (lexer end true x.top x.count x.used) k.0 (k.1, reached.1)
-      go true (Level end code n top) k p = sound_prepend (length s) _ [] (rest (lexer end false top (x.count + n) x.used)) (h (lexer end false top (x.count + n) x.used) k.0 (k.1, k.2))
-      go true (No number place) k p = p
+      go true (Ok (Blank end)) k p = h (lexer end true x.top x.count x.used) k.0 (k.1, reached.1)
+      go true (Ok (Level end code n top)) k p = sound_prepend (length s) _ [] (rest (lexer end false top (x.count + n) x.used)) (h (lexer end false top (x.count + n) x.used) k.0 (k.1, k.2))
+      go true (Err r) k p = p
 
   token_sound : Onward (length s) (x.at + 1) rest → Sound (length s) (token_then s rest x)
   unfolding token_then closed
@@ -97,21 +99,21 @@ module _ (s : List ℕ) (x : Lexer) (reached : Reached (length s) x) (rest : Res
       start : ℕ
       start = gap_end_lem s x.at
 
-      by_value : (code end : ℕ) (bs : List ℕ) (v : Lexed) → start < end → end ≤ length s → Sound (length s) (value_then rest x code start end bs v)
-      by_value code end bs (Value v) a b =
+      by_value : (code end : ℕ) (bs : List ℕ) (v : Option Literal) → start < end → end ≤ length s → Sound (length s) (value_then rest x code start end bs v)
+      by_value code end bs (Some v) a b =
           let y = lexer end (eqb code Code.Newline || x.flag) x.top (x.count + 1) (x.used + length bs) in
           sound_prepend (length s) (token code start end v ∷ []) bs (rest y) (h y (omega (arith, gap_from s x.at)) (b, reached.1))
-      by_value code end bs Refused a b = number_sound (eqb code Code.Int)
+      by_value code end bs None a b = number_sound (eqb code Code.Int)
         where
           number_sound : (t : Bool) → Refuses (length s) (cond t 10 11) start
           number_sound true = record { least = omega arith; greatest = omega arith; within = omega arith }
           number_sound false = record { least = omega arith; greatest = omega arith; within = omega arith }
 
-      by_token : start < length s → (k : RawToken) → ((code end : ℕ) → k ≡ Found code end → (start < end) × (end ≤ length s)) → Sound (length s) (found_then s rest x start k)
-      by_token l NoMatch w = record { least = omega arith; greatest = omega arith; within = omega arith }
-      by_token l (Found code end) w =
-          let b = w code end refl in
-          by_value code end (text_of code (part s start end)) (value_of code (part s start end) x.used) b.0 b.1
+      by_token : start < length s → (k : Option RawToken) → ((code end : ℕ) → k ≡ Some (raw_token code end) → (start < end) × (end ≤ length s)) → Sound (length s) (found_then s rest x start k)
+      by_token l None w = record { least = omega arith; greatest = omega arith; within = omega arith }
+      by_token l (Some t) w =
+          let b = w t.code t.end refl in
+          by_value t.code t.end (text_of t.code (part s start t.end)) (value_of t.code (part s start t.end) x.used) b.0 b.1
 
       by_end : (t : Bool) → (t ≡ true → start < length s) → Sound (length s) (cond t (found_then s rest x start (token_at_lem s start)) (closed (length s) x))
       by_end false l = tt
@@ -129,3 +131,10 @@ pub refusals : (s : List ℕ) (number place : ℕ) → token_list s ≡ refused 
 unfolding token_list
 refusals s number place e =
     subst (Sound (length s)) e (scan_sound (suc (length s)) s (lexer 0 true 0 0 0) (omega arith, omega arith) (omega arith))
+
+-- each of these numbers has a case of the code's enum
+pub has_case : (number : ℕ) → 6 ≤ number → number ≤ 11 → number_of (reason_of number) ≡ number
+has_case number h k = eqb-true (number_of (reason_of number)) number (at_each (λ (n : ℕ). eqb (number_of (reason_of n)) n) 6 6 tt number h (omega arith))
+
+pub refused_case : (s : List ℕ) (number place : ℕ) → token_list s ≡ refused number place → number_of (reason_of number) ≡ number
+refused_case s number place e = let r = refusals s number place e in has_case number r.least r.greatest

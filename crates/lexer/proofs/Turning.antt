@@ -14,53 +14,54 @@ use Rattle.lexer.specs.Scan.{scanned, mark, lexer, Rest, indent_then, closed}
 use Rattle.lexer.specs.Words.{words}
 use Rattle.lexer.specs.Steps.{Paid, Marks, Turns}
 use Rattle.lexer.specs.declared.Lexer.{Lexer}
-use Rattle.lexer.specs.declared.Marked.TheVariants as M
+use Rattle.source.specs.declared.refusal.Refusal.{Refusal}
 use Rattle.lexer.specs.declared.Turn.TheVariants as T
 use Rattle.spacing.specs.declared.line.Indentation.{Indentation}
-use Rattle.spacing.specs.declared.line.Indentation.TheVariants.{Blank, Level, No}
+use Rattle.spacing.specs.declared.line.Indentation.TheVariants.{Blank, Level}
+use Rattle.std.specs.Prelude.{Result, Ok, Err}
 use Rattle.spacing.proofs.Levels.{Known, indentation_known}
 use Rattle.lexer.proofs.Writing.{wrote}
 
 -- ---- a line's spaces
 
 module _ (s : List ℕ) (x : Lexer) (paid : Paid (length s) x) where
-  pub flag_clear : x.flag ≡ false → (tokens : List ℕ) → Marks s x (M.On x) tokens tokens
+  pub flag_clear : x.flag ≡ false → (tokens : List ℕ) → Marks s x (Ok x) tokens tokens
   unfolding indent_then
   flag_clear e tokens = record { is = λ rest text. rw e; within = (paid, le_refl x.at) }
 
-  known : (i : Indentation) → indentation_at s x.at x.top ≡ i → Known (length s) x.at x.top i
+  known : (i : Result Indentation Refusal) → indentation_at s x.at x.top ≡ i → Known (length s) x.at x.top i
   known i e = subst (Known (length s) x.at x.top) e (indentation_known s x.at x.top paid.within paid.even)
 
-  pub level_room : (end code marks top : ℕ) → indentation_at s x.at x.top ≡ Level end code marks top → (x.count + marks ≤ length s) × (end ≤ length s)
+  pub level_room : (end code marks top : ℕ) → indentation_at s x.at x.top ≡ Ok (Level end code marks top) → (x.count + marks ≤ length s) × (end ≤ length s)
   level_room end code marks top e =
-      let k = known (Level end code marks top) e in
+      let k = known (Ok (Level end code marks top)) e in
       let p = paid.tokens_paid in
       (omega arith, k.1)
 
   module _ (flag : x.flag ≡ true) where
-    pub on_blank : (end : ℕ) → indentation_at s x.at x.top ≡ Blank end → (tokens : List ℕ) → Marks s x (M.On (lexer end true x.top x.count x.used)) tokens tokens
+    pub on_blank : (end : ℕ) → indentation_at s x.at x.top ≡ Ok (Blank end) → (tokens : List ℕ) → Marks s x (Ok (lexer end x.flag x.top x.count x.used)) tokens tokens
     unfolding indent_then
     on_blank end e tokens =
-        let k = known (Blank end) e in
+        let k = known (Ok (Blank end)) e in
         record {
           is = λ rest text. rw (flag, e);
           within = (record { within = k.1; even = paid.even; tokens_paid = omega arith; text_paid = omega arith }, k.0);
         }
 
-    pub on_level : (end code marks top : ℕ) → indentation_at s x.at x.top ≡ Level end code marks top → (tokens tokens' : List ℕ)
+    pub on_level : (end code marks top : ℕ) → indentation_at s x.at x.top ≡ Ok (Level end code marks top) → (tokens tokens' : List ℕ)
         → tokens' ≡ sets tokens (3 * x.count) (words (replicate marks (mark code x.at end))) → 3 * (x.count + marks) ≤ length tokens
-        → Marks s x (M.On (lexer end false top (x.count + marks) x.used)) tokens tokens'
+        → Marks s x (Ok (lexer end false top (x.count + marks) x.used)) tokens tokens'
     unfolding indent_then
     on_level end code marks top e tokens tokens' w room =
-        let k = known (Level end code marks top) e in
+        let k = known (Ok (Level end code marks top)) e in
         record {
           is = λ rest text. rw (flag, e) (wrote tokens x.count (replicate marks (mark code x.at end)) tokens' (x.count + marks) text [] text x.used x.used w (ap (λ (n : ℕ). x.count + n) (sym (length-replicate marks (mark code x.at end)))) room (sym (append-nil (take x.used text))) (rest (lexer end false top (x.count + marks) x.used)));
           within = (record { within = k.1; even = k.2; tokens_paid = omega arith; text_paid = omega arith }, k.0);
         }
 
-    pub on_no : (number place : ℕ) → indentation_at s x.at x.top ≡ No number place → (tokens : List ℕ) → Marks s x (M.No number place) tokens tokens
+    pub on_no : (r : Refusal) → indentation_at s x.at x.top ≡ Err r → (tokens : List ℕ) → Marks s x (Err r) tokens tokens
     unfolding indent_then
-    on_no number place e tokens = record { is = λ rest text. rw (flag, e); within = tt }
+    on_no r e tokens = record { is = λ rest text. rw (flag, e); within = tt }
 
 -- ---- the end
 
@@ -68,7 +69,7 @@ module _ (n : ℕ) (x : Lexer) (paid : Paid n x) where
   pub all_closed : (tokens tokens₁ tokens₂ text : List ℕ) → 3 * (n + 1) ≤ length tokens → length tokens₁ ≡ length tokens
       → tokens₁ ≡ sets tokens (3 * x.count) (words (replicate (x.top / step) (mark Code.Dedent n n)))
       → tokens₂ ≡ sets tokens₁ (3 * (x.count + x.top / step)) (words (mark Code.Eof n n ∷ []))
-      → Turns n (λ (rest : Rest). closed n x) x (T.End (x.count + x.top / step) x.used) tokens text tokens₂ text
+      → Turns n (λ (rest : Rest). closed n x) x (Ok (T.End (record { count = x.count + x.top / step; text = x.used }))) tokens text tokens₂ text
   unfolding closed
   all_closed tokens tokens₁ tokens₂ text room long w₁ w₂ =
       let closing = x.top / step in

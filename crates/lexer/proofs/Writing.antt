@@ -2,7 +2,7 @@
 -- Assumes nothing.
 use mathlib.Core.Path.{◌≡◌, refl, sym, ap, ◌∙◌}
 use mathlib.Core.List.{List, [], ◌∷◌, ◌++◌, append_assoc}
-use Prim.Native.Nat.{ℕ, zero, suc, ◌+◌, ◌-◌, ◌*◌, ◌<◌, ◌≤◌}
+use Prim.Native.Nat.{ℕ, suc, ◌+◌, ◌*◌, ◌≤◌}
 use native.Mathlib.Omega.{arith}
 use lib.ListN.{length, take, drop, replicate, length-append}
 use lib.Seq.{sets, sets-eq, length-take-le, take_at}
@@ -41,14 +41,8 @@ module _ (tokens : List ℕ) (count : ℕ) (ts : List Token) (tokens' : List ℕ
       ∙ ap (λ (cs : List ℕ). left (take (3 * count') tokens') cs r) (sym b)
 
 -- marks, one after the other
-pub marks_more : (l : List ℕ) (p k code start end : ℕ) → 0 < k
-    → sets l (3 * p) (words (replicate k (mark code start end))) ≡ sets (sets l (3 * p) (code ∷ start ∷ end ∷ [])) (3 * (p + 1)) (words (replicate (k - 1) (mark code start end)))
-marks_more l p zero code start end h = absurd (omega arith)
-marks_more l p (suc k) code start end h =
-    let e : suc k - 1 ≡ k = omega arith in
+pub marks_more : (l : List ℕ) (p k m code start end : ℕ) → k ≡ suc m
+    → sets l (3 * p) (words (replicate k (mark code start end))) ≡ sets (sets l (3 * p) (code ∷ start ∷ end ∷ [])) (3 * (p + 1)) (words (replicate m (mark code start end)))
+marks_more l p k m code start end e =
     let f : 3 * (p + 1) ≡ suc (suc (suc (3 * p))) = omega arith in
     rw (e, f)
-
-pub marks_none : (l : List ℕ) (p k code start end : ℕ) → k ≤ 0 → sets l (3 * p) (words (replicate k (mark code start end))) ≡ l
-marks_none l p zero code start end h = refl
-marks_none l p (suc k) code start end h = absurd (omega arith)

@@ -3,22 +3,22 @@
 -- The state is the code's struct Lexer: `at`, the place reached; `flag`; `top`, the deepest open level; `count`, the tokens so far, which the code needs
 -- and no rule asks; `used`, the text so far, which a String's offset needs.
 -- Assumes nothing.
-use Rattle.std.specs.Prelude.{ℕ, zero, suc, ◌+◌, ◌/◌, Bool, true, false, cond, ◌||◌, List, [], ◌∷◌, ◌++◌, eqb, ltb, length, replicate}
+use Rattle.std.specs.Prelude.{ℕ, zero, suc, ◌+◌, ◌/◌, Bool, true, false, cond, ◌||◌, List, [], ◌∷◌, ◌++◌, eqb, ltb, length, replicate, Option, Some, None, Result, Ok, Err}
 use Rattle.source.specs.Bytes.{part}
 use Rattle.token.specs.Code as Code
 use Rattle.tokens.specs.Token.{Token, token}
 use Rattle.raw_token.specs.Table.{token_at_lem}
 use Rattle.raw_token.specs.declared.RawToken.{RawToken}
-use Rattle.raw_token.specs.declared.RawToken.TheVariants.{Found, NoMatch}
+use Rattle.source.specs.Reasons.{number_of}
+use Rattle.source.specs.declared.refusal.Refusal.{Refusal}
+use Rattle.literal.specs.declared.Literal.{Literal}
 use Rattle.literal.specs.declared.Literal.TheVariants as L
-use Rattle.literal.specs.declared.Lexed.{Lexed}
-use Rattle.literal.specs.declared.Lexed.TheVariants.{Value, Refused}
 use Rattle.spacing.specs.Gap.{gap_end_lem}
 use Rattle.spacing.specs.Indentation.{step, indentation_at}
 use Rattle.lexer.specs.Value.{value_of, refusal_of, text_of}
 use Rattle.lexer.specs.declared.Lexer.{Lexer}
 use Rattle.spacing.specs.declared.line.Indentation.{Indentation}
-use Rattle.spacing.specs.declared.line.Indentation.TheVariants.{Blank, Level, No}
+use Rattle.spacing.specs.declared.line.Indentation.TheVariants.{Blank, Level}
 
 -- the tokens, Eof last, and the decoded text; or the number and place of the first refusal
 pub data Scan : Type 0 where
@@ -43,11 +43,11 @@ Rest = Lexer → Scan
 
 -- the marks of a line's spaces, and then the rest. "Before line feed, carriage return or `#` the flag stays set and no level changes; otherwise
 -- .. it is cleared"
-abbrev pub marks_then : Rest → Lexer → Indentation → Scan
-marks_then rest x (Blank end) = rest (lexer end true x.top x.count x.used)
-marks_then rest x (Level end code n top) =
+abbrev pub marks_then : Rest → Lexer → Result Indentation Refusal → Scan
+marks_then rest x (Ok (Blank end)) = rest (lexer end true x.top x.count x.used)
+marks_then rest x (Ok (Level end code n top)) =
     prepend (replicate n (mark code x.at end)) [] (rest (lexer end false top (x.count + n) x.used))
-marks_then rest x (No number place) = refused number place
+marks_then rest x (Err r) = refused (number_of r.reason) r.place
 
 -- "A flag .. makes the next call count spaces"
 unfoldable pub indent_then : List ℕ → Rest → Lexer → Scan
@@ -59,17 +59,17 @@ closed n x = scanned (replicate (x.top / step) (mark Code.Dedent n n) ++ mark Co
 
 -- a token with its value and its text, and then the rest. The flag is set "after each Newline", and stays set where it is: "After a carriage
 -- return then a token, the flag is still set"
-abbrev pub value_then : Rest → Lexer → ℕ → ℕ → ℕ → List ℕ → Lexed → Scan
-value_then rest x code start end bs (Value v) =
+abbrev pub value_then : Rest → Lexer → ℕ → ℕ → ℕ → List ℕ → Option Literal → Scan
+value_then rest x code start end bs (Some v) =
     prepend (token code start end v ∷ []) bs
     (rest (lexer end (eqb code Code.Newline || x.flag) x.top (x.count + 1) (x.used + length bs)))
-value_then rest x code start end bs Refused = refused (refusal_of code) start
+value_then rest x code start end bs None = refused (refusal_of code) start
 
 -- "9 does a token match?"; and since 02, change 1: "Another character over 127 where a token would start gets 9, so 12 never occurs from here on"
-abbrev pub found_then : List ℕ → Rest → Lexer → ℕ → RawToken → Scan
-found_then s rest x start (Found code end) =
-    value_then rest x code start end (text_of code (part s start end)) (value_of code (part s start end) x.used)
-found_then s rest x start NoMatch = refused 9 start
+abbrev pub found_then : List ℕ → Rest → Lexer → ℕ → Option RawToken → Scan
+found_then s rest x start (Some t) =
+    value_then rest x t.code start t.end (text_of t.code (part s start t.end)) (value_of t.code (part s start t.end) x.used)
+found_then s rest x start None = refused 9 start
 
 -- the next token, behind what is skipped
 unfoldable pub token_then : List ℕ → Rest → Lexer → Scan

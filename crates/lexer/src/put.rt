@@ -9,10 +9,8 @@ pub fn put_token(tokens: &mut [u32], count: usize, code: u32, start: usize, end:
     requires { (3 * count + 2 < length tokens.old) × (start < 2 ^ 32) × (end < 2 ^ 32) }
     ensures { tokens.new ≡ sets tokens.old (3 * count) (code ∷ start ∷ end ∷ []) }
 {
-    let o = 3 * count;
-    tokens[o] = code;
-    tokens[o + 1] = start as u32;
-    tokens[o + 2] = end as u32;
+    let at = 3 * count;
+    tokens[at..at + 3].copy_from_slice(&[code, start as u32, end as u32]);
 }
 
 // Writes the words of n tokens that are alike, from token number `count` on.
@@ -20,11 +18,7 @@ pub fn put_marks(tokens: &mut [u32], count: usize, n: usize, code: u32, start: u
     requires { (3 * (count + n) ≤ length tokens.old) × (start < 2 ^ 32) × (end < 2 ^ 32) }
     ensures { tokens.new ≡ sets tokens.old (3 * count) (words (replicate n (mark code start end))) }
 {
-    let mut at = count;
-    let mut k = n;
-    while 0 < k {
+    for at in count..count + n {
         put_token(tokens, at, code, start, end);
-        at += 1;
-        k -= 1;
     }
 }

@@ -6,16 +6,10 @@ ghost use Rattle.token.specs.Code.{String};
 ghost use Rattle.lexer.specs.Value.{value_of, text_of, literal_in};
 ghost use Rattle.lexer.specs.Steps.{taken_of};
 
-use literal::{Lexed, Literal};
+use literal::Literal;
 
-// The text is so long then; or the value is refused.
-#[derive(Clone, Copy)]
-pub enum Taken {
-    Used(usize),
-    Refused,
-}
-
-// Reads the value of the token with this code from start to end, and writes its text behind the `used` bytes so far.
+// Reads the value of the token with this code from start to end, and writes its text behind the `used` bytes so far: how long the text is then, and nothing
+// where the value is refused.
 pub fn take_value(
     src: &[u8],
     text: &mut [u8],
@@ -23,36 +17,21 @@ pub fn take_value(
     start: usize,
     end: usize,
     used: usize,
-) -> Taken
+) -> Option<usize>
     requires start_le_end { (start ≤ end) × (end ≤ length src.now) × (used + (end - start) ≤ length text.old) }
     requires start_bound { code ≡ String → start + 2 ≤ end }
     ensures value { result ≡ taken_of (value_of code (part src.now start end) used) (used + length (text_of code (part src.now start end))) }
     ensures text_after { text.new ≡ sets text.old used (text_of code (part src.now start end)) }
 {
     match code {
-        token::INT => match literal::lex_integer(&src[start..end]) {
-            Lexed::Value(_) => Taken::Used(used),
-            Lexed::Refused => Taken::Refused,
-        },
-        token::FLOAT => match literal::lex_float(&src[start..end]) {
-            Lexed::Value(_) => Taken::Used(used),
-            Lexed::Refused => Taken::Refused,
-        },
+        token::INT => literal::lex_integer(&src[start..end]).and(Some(used)),
+        token::FLOAT => literal::lex_float(&src[start..end]).and(Some(used)),
         token::STRING => {
             let from = start + 1;
             let to = end - 1;
-            Taken::Used(strings::process_string_escapes(&src[from..to], text, used))
+            Some(strings::process_string_escapes(&src[from..to], text, used))
         }
-        _ => Taken::Used(used),
-    }
-}
-
-fn value_in(v: Lexed) -> Literal
-    ensures { result ≡ literal_in v }
-{
-    match v {
-        Lexed::Value(l) => l,
-        Lexed::Refused => Literal::None,
+        _ => Some(used),
     }
 }
 
@@ -64,8 +43,8 @@ pub fn literal_of(src: &[u8], code: u32, start: usize, end: usize, used: u32) ->
 {
     match code {
         token::BOOL => Literal::Bool(source::byte(&src[start..end], 0) == b'T'),
-        token::INT => value_in(literal::lex_integer(&src[start..end])),
-        token::FLOAT => value_in(literal::lex_float(&src[start..end])),
+        token::INT => literal::lex_integer(&src[start..end]).unwrap_or(Literal::None),
+        token::FLOAT => literal::lex_float(&src[start..end]).unwrap_or(Literal::None),
         token::STRING => literal::lex_string(&src[start..end], used),
         _ => Literal::None,
     }

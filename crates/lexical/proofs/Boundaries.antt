@@ -9,12 +9,11 @@ use native.Mathlib.Omega.{arith}
 use lib.ListN.{length, get_or, take, drop, length-append}
 use lib.Seq.{take_at, drop_at}
 use borrow.Author.Tests.{lt-leb}
+use Rattle.std.specs.Prelude.{None, Some}
 use Rattle.source.proofs.Bools.{and_left, and_right}
 use Rattle.source.proofs.Lists.{at_cons}
 use Rattle.utf8.specs.Table.{sequence_length, utf8_error_lem}
-use Rattle.utf8.specs.declared.Utf8.TheVariants.{WellFormed}
-use Rattle.raw_token.specs.Table.{token_at_lem}
-use Rattle.raw_token.specs.declared.RawToken.TheVariants.{Found}
+use Rattle.raw_token.specs.Table.{raw_token, token_at_lem}
 use Rattle.raw_token.specs.Pattern as P
 use Rattle.raw_token.specs.Parts.{name_at}
 use Rattle.raw_token.proofs.Names.{name_begins}
@@ -55,9 +54,9 @@ parted ((a ∷ m) ∷ cs) (suc at) e w b =
 
 -- a place between characters
 abbrev pub Between : List ℕ → ℕ → Type 0
-Between s at = (utf8_error_lem (take at s) ≡ WellFormed) × (utf8_error_lem (drop at s) ≡ WellFormed)
+Between s at = (utf8_error_lem (take at s) ≡ None) × (utf8_error_lem (drop at s) ≡ None)
 
-boundary : (s : List ℕ) (at : ℕ) → utf8_error_lem s ≡ WellFormed → at < length s → trailing (get_or s at 0) ≡ false → Between s at
+boundary : (s : List ℕ) (at : ℕ) → utf8_error_lem s ≡ None → at < length s → trailing (get_or s at 0) ≡ false → Between s at
 boundary s at w h b =
     let x = whole s w in
     let p = parted (characters s) at x.0 (rw x.1 h) (rw x.1 b) in
@@ -68,19 +67,19 @@ boundary s at w h b =
     )
 
 -- such is that of a byte under 128
-pub between_characters : (s : List ℕ) (at : ℕ) → utf8_error_lem s ≡ WellFormed → at < length s → get_or s at 0 < 128 → Between s at
+pub between_characters : (s : List ℕ) (at : ℕ) → utf8_error_lem s ≡ None → at < length s → get_or s at 0 < 128 → Between s at
 between_characters s at w h b = boundary s at w h (rw (lt-leb 128 (get_or s at 0) b))
 
 -- and one where a sequence begins
-sequence_starts : (s : List ℕ) (at : ℕ) → utf8_error_lem s ≡ WellFormed → at < length s → 0 < sequence_length (drop at s) → Between s at
+sequence_starts : (s : List ℕ) (at : ℕ) → utf8_error_lem s ≡ None → at < length s → 0 < sequence_length (drop at s) → Between s at
 sequence_starts s at w h k = boundary s at w h (sequence_first (get_or s at 0) (drop (at + 1) s) (rw (at_cons s at h) at k))
 
-name_some : (s : List ℕ) (at code end : ℕ) → name_at s at ≡ Found code end → 0 < P.name (drop at s)
+name_some : (s : List ℕ) (at code end : ℕ) → name_at s at ≡ Some (raw_token code end) → 0 < P.name (drop at s)
 unfolding name_at
 name_some s at code end e = (found_best at _ code end e).some
 
 -- any token that the table finds starts between characters
-pub token_starts : (s : List ℕ) (at code end : ℕ) → utf8_error_lem s ≡ WellFormed → token_at_lem s at ≡ Found code end → Between s at
+pub token_starts : (s : List ℕ) (at code end : ℕ) → utf8_error_lem s ≡ None → token_at_lem s at ≡ Some (raw_token code end) → Between s at
 token_starts s at code end w f = go (dec_lt (get_or s at 0) 128) (omega (arith, token_within s at code end f))
   where
     go : Dec (get_or s at 0 < 128) → at < length s → Between s at

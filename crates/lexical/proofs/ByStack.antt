@@ -10,25 +10,25 @@ use native.Mathlib.Omega.{arith}
 use lib.Dec.{eqb, ltb}
 use lib.ListN.{length, get_or, replicate, length-append}
 use borrow.Author.Tests.{eq-eqb, ne_eqb, eqb-true, lt-ltb, le-ltb, ltb-false}
+use Rattle.std.specs.Prelude.{Option, Some, None, Result, Ok, Err}
 use Rattle.source.specs.Bytes.{part}
 use Rattle.token.specs.Code as Code
 use Rattle.tokens.specs.Token.{Token, token}
 use Rattle.literal.specs.declared.Literal.{Literal}
-use Rattle.literal.specs.declared.Lexed.{Lexed}
-use Rattle.literal.specs.declared.Lexed.TheVariants.{Value, Refused}
-use Rattle.raw_token.specs.Table.{token_at_lem}
+use Rattle.raw_token.specs.Table.{raw_token, token_at_lem}
 use Rattle.raw_token.specs.declared.RawToken.{RawToken}
-use Rattle.raw_token.specs.declared.RawToken.TheVariants.{Found, NoMatch}
 use Rattle.spacing.specs.Gap.{gap_end_lem}
 use Rattle.spacing.specs.Indentation.{step, is_level, is_blank_line, level_of, spaces_end_lem, indentation_at}
 use Rattle.lexer.specs.Value.{value_of, text_of}
 use Rattle.lexer.specs.Scan.{Scan, scanned, refused, prepend, mark, lexer, Rest, marks_then, indent_then, closed, value_then, found_then, token_then, scan_from, token_list}
 use Rattle.lexer.specs.declared.Lexer.{Lexer}
 use Rattle.spacing.specs.declared.line.Indentation.{Indentation}
-use Rattle.spacing.specs.declared.line.Indentation.TheVariants.{Blank, Level, No}
+use Rattle.spacing.specs.declared.line.Indentation.TheVariants.{Blank, Level}
 use Rattle.lexer.proofs.Laws.{raw_code}
 use Rattle.lexical.specs.Stack.{pushed, opened, levels, among, above, level_among, indentation_among}
 use Rattle.lexical.specs.ByStack.{State, state, Onward, marks_on, indent_on, closed_on, value_on, found_on, token_on, on_from, token_list_by_stack}
+use Rattle.source.specs.Reasons.{refusal_at}
+use Rattle.source.specs.declared.refusal.Refusal.{Refusal}
 
 -- ---- the stack with d open levels
 
@@ -79,18 +79,18 @@ level_is at end d = rw (ladder_top d) (by_top (eqb k (step * d)) (eqb-true k (st
     k = end - at
 
     at_level : k ≤ step * d → (t : Bool) → (t ≡ true → k % step ≡ 0)
-        → cond t (Level end Code.Dedent (above k (ladder d)) k) (No 8 at) ≡ cond t (Level end Code.Dedent ((step * d - k) / step) k) (No 8 at)
+        → cond t (Ok (Level end Code.Dedent (above k (ladder d)) k)) (Err (refusal_at 8 at)) ≡ cond t (Ok (Level end Code.Dedent ((step * d - k) / step) k)) (Err (refusal_at 8 at))
     at_level h true f = rw (above_ladder k d h (f refl))
     at_level h false f = refl
 
     back : k ≤ step * d
-        → cond (among k (ladder d)) (Level end Code.Dedent (above k (ladder d)) k) (No 8 at) ≡ cond (is_level k) (Level end Code.Dedent ((step * d - k) / step) k) (No 8 at)
+        → cond (among k (ladder d)) (Ok (Level end Code.Dedent (above k (ladder d)) k)) (Err (refusal_at 8 at)) ≡ cond (is_level k) (Ok (Level end Code.Dedent ((step * d - k) / step) k)) (Err (refusal_at 8 at))
     back h = rw (among_ladder k d h) (at_level h (is_level k) (eqb-true (k % step) 0))
 
     by_top : (t : Bool) → (t ≡ true → k ≡ step * d) → (u : Bool) → (u ≡ false → k ≤ step * d)
-        → cond t (Level end Code.Dedent 0 k) (cond u (cond (eqb k (step * d + step)) (Level end Code.Indent 1 k) (No 7 at)) (cond (among k (ladder d)) (Level end Code.Dedent (above k (ladder d)) k) (No 8 at)))
-        ≡ cond t (Level end Code.Dedent 0 (step * d)) (cond u (cond (eqb k (step * d + step)) (Level end Code.Indent 1 k) (No 7 at)) (cond (is_level k) (Level end Code.Dedent ((step * d - k) / step) k) (No 8 at)))
-    by_top true f u g = ap (Level end Code.Dedent 0) (f refl)
+        → cond t (Ok (Level end Code.Dedent 0 k)) (cond u (cond (eqb k (step * d + step)) (Ok (Level end Code.Indent 1 k)) (Err (refusal_at 7 at))) (cond (among k (ladder d)) (Ok (Level end Code.Dedent (above k (ladder d)) k)) (Err (refusal_at 8 at))))
+        ≡ cond t (Ok (Level end Code.Dedent 0 (step * d))) (cond u (cond (eqb k (step * d + step)) (Ok (Level end Code.Indent 1 k)) (Err (refusal_at 7 at))) (cond (is_level k) (Ok (Level end Code.Dedent ((step * d - k) / step) k)) (Err (refusal_at 8 at))))
+    by_top true f u g = ap (λ (n : ℕ). Ok (Level end Code.Dedent 0 n)) (f refl)
     by_top false f true g = refl
     by_top false f false g = back (g refl)
 
@@ -105,10 +105,10 @@ record Leads (at d end code n top : ℕ) : Type 0 where
   top_is : top ≡ step * depth
   opens : opened (ladder d) (replicate n (mark code at end)) ≡ ladder depth
 
-abbrev Leading : ℕ → ℕ → Indentation → Type 0
-Leading at d (Blank end) = Unit {0}
-Leading at d (Level end code n top) = Leads at d end code n top
-Leading at d (No number place) = Unit {0}
+abbrev Leading : ℕ → ℕ → Result Indentation Refusal → Type 0
+Leading at d (Ok (Blank end)) = Unit {0}
+Leading at d (Ok (Level end code n top)) = Leads at d end code n top
+Leading at d (Err r) = Unit {0}
 
 -- several Dedents close as many levels
 pops : (n d all at end : ℕ) → all ≡ n + d → opened (ladder all) (replicate n (mark Code.Dedent at end)) ≡ ladder d
@@ -131,7 +131,7 @@ level_leads at end d =
     top = step * d
 
     go : (t u : Bool) → (u ≡ false → k ≤ top) → (v : Bool) → (v ≡ true → k ≡ top + step) → (w : Bool) → (w ≡ true → k % step ≡ 0)
-        → Leading at d (cond t (Level end Code.Dedent 0 top) (cond u (cond v (Level end Code.Indent 1 k) (No 7 at)) (cond w (Level end Code.Dedent ((top - k) / step) k) (No 8 at))))
+        → Leading at d (cond t (Ok (Level end Code.Dedent 0 top)) (cond u (cond v (Ok (Level end Code.Indent 1 k)) (Err (refusal_at 7 at))) (cond w (Ok (Level end Code.Dedent ((top - k) / step) k)) (Err (refusal_at 8 at)))))
     go true u f v g w h = record { depth = d; top_is = refl; opens = refl }
     go false true f true g w h =
         let e : k ≡ step * suc d = omega (arith, g refl) in
@@ -149,7 +149,7 @@ indentation_leads s at d = go (eqb b 9) (is_blank_line b)
     b : ℕ
     b = get_or s (spaces_end_lem s at) 0
 
-    go : (t u : Bool) → Leading at d (cond t (No 6 (spaces_end_lem s at)) (cond u (Blank (spaces_end_lem s at)) (level_of at (spaces_end_lem s at) (step * d))))
+    go : (t u : Bool) → Leading at d (cond t (Err (refusal_at 6 (spaces_end_lem s at))) (cond u (Ok (Blank (spaces_end_lem s at))) (level_of at (spaces_end_lem s at) (step * d))))
     go true u = tt
     go false true = tt
     go false false = level_leads at (spaces_end_lem s at) d
@@ -177,16 +177,16 @@ module _ (s : List ℕ) (rest : Rest) (on : Onward) (alike : Alike rest on) (y :
       x : Lexer
       x = lexer y.at y.flag (step * d) count (length y.text)
 
-      by_flag : (t : Bool) (i : Indentation) → Leading y.at d i
+      by_flag : (t : Bool) (i : Result Indentation Refusal) → Leading y.at d i
           → cond t (marks_on on y i) (on y) ≡ prepend y.tokens y.text (cond t (marks_then rest x i) (rest x))
       by_flag false i l = alike y d count e
-      by_flag true (Blank end) l = alike (state end true y.tokens y.text) d count e
-      by_flag true (Level end code n top) l =
+      by_flag true (Ok (Blank end)) l = alike (state end true y.tokens y.text) d count e
+      by_flag true (Ok (Level end code n top)) l =
           let us = replicate n (mark code y.at end) in
           rw l.top_is
           (alike (state end false (y.tokens ++ us) y.text) l.depth (count + n) (opened_append (0 ∷ []) y.tokens us ∙ ap (λ (ks : List ℕ). opened ks us) e ∙ l.opens)
           ∙ prepend_twice y.tokens us y.text [] y.text (rest (lexer end false (step * l.depth) (count + n) (length y.text))) (sym (append-nil y.text)))
-      by_flag true (No number place) l = refl
+      by_flag true (Err r) l = refl
 
   token_alike : token_on s on y ≡ prepend y.tokens y.text (token_then s rest (lexer y.at y.flag (step * d) count (length y.text)))
   unfolding token_on token_then closed_on closed
@@ -199,28 +199,28 @@ module _ (s : List ℕ) (rest : Rest) (on : Onward) (alike : Alike rest on) (y :
       x = lexer y.at y.flag (step * d) count (length y.text)
 
       -- a raw token opens and closes nothing
-      stays : (code end : ℕ) (v : Literal) → token_at_lem s start ≡ Found code end → levels (y.tokens ++ token code start end v ∷ []) ≡ ladder d
+      stays : (code end : ℕ) (v : Literal) → token_at_lem s start ≡ Some (raw_token code end) → levels (y.tokens ++ token code start end v ∷ []) ≡ ladder d
       stays code end v f =
           let c = raw_code s start code end f in
           opened_append (0 ∷ []) y.tokens (token code start end v ∷ []) ∙ rw (ne_eqb code Code.Indent c.2, ne_eqb code Code.Dedent c.3) e
 
-      by_value : (code end : ℕ) (bs : List ℕ) → token_at_lem s start ≡ Found code end → (v : Lexed)
+      by_value : (code end : ℕ) (bs : List ℕ) → token_at_lem s start ≡ Some (raw_token code end) → (v : Option Literal)
           → value_on on y code start end bs v ≡ prepend y.tokens y.text (value_then rest x code start end bs v)
-      by_value code end bs f (Value v) =
+      by_value code end bs f (Some v) =
           let flag = eqb code Code.Newline || y.flag in
           rw (← length-append y.text bs)
           (alike (state end flag (y.tokens ++ token code start end v ∷ []) (y.text ++ bs)) d (count + 1) (stays code end v f)
           ∙ prepend_twice y.tokens (token code start end v ∷ []) y.text bs (y.text ++ bs) (rest (lexer end flag (step * d) (count + 1) (length (y.text ++ bs)))) refl)
-      by_value code end bs f Refused = refl
+      by_value code end bs f None = refl
 
-      by_token : (t : Bool) (k : RawToken) → token_at_lem s start ≡ k
+      by_token : (t : Bool) (k : Option RawToken) → token_at_lem s start ≡ k
           → cond t (found_on s on y start k) (closed_on (length s) y)
           ≡ prepend y.tokens y.text (cond t (found_then s rest x start k) (closed (length s) x))
       by_token false k f =
           let c : above 0 (ladder d) ≡ step * d / step = omega (arith, above_ladder 0 d (omega arith) (omega arith)) in
           rw (e, c, append-nil y.text)
-      by_token true NoMatch f = refl
-      by_token true (Found code end) f = by_value code end (text_of code (part s start end)) f (value_of code (part s start end) (length y.text))
+      by_token true None f = refl
+      by_token true (Some t) f = by_value t.code t.end (text_of t.code (part s start t.end)) f (value_of t.code (part s start t.end) (length y.text))
 
 on_alike : (fuel : ℕ) (s : List ℕ) → Alike (scan_from fuel s) (on_from fuel s)
 unfolding scan_from on_from

@@ -10,10 +10,10 @@ use lib.Dec.{eqb, leb, ltb}
 use lib.ListN.{length, take, drop, length-append, length-drop, take-append-drop}
 use lib.Seq.{take-append_seam, drop-append_seam}
 use borrow.Author.Tests.{ltb-true, leb-true, eqb-true, eq-eqb, le-leb, lt-leb}
+use Rattle.std.specs.Prelude.{None}
 use Rattle.source.specs.Bytes.{between}
 use Rattle.source.proofs.Bools.{and_left, and_right, and_false, or_either}
 use Rattle.utf8.specs.Table.{Row, rows, fits, length_by, sequence_length, step, first_ill_formed, utf8_error_lem}
-use Rattle.utf8.specs.declared.Utf8.TheVariants.{WellFormed}
 use Rattle.utf8.proofs.Rows.{low_sequence}
 use Rattle.lexical.specs.Characters.{is_of, is_character, are_characters, bytes_of, cut, characters}
 
@@ -114,7 +114,7 @@ not_empty e = no_empty rows rows_apart e
 
 -- ---- a well-formed list is its characters
 
-cut_whole : (fuel i : ℕ) (l : List ℕ) → length l ≤ fuel → first_ill_formed fuel i l ≡ WellFormed → (are_characters (cut fuel l) ≡ true) × (bytes_of (cut fuel l) ≡ l)
+cut_whole : (fuel i : ℕ) (l : List ℕ) → length l ≤ fuel → first_ill_formed fuel i l ≡ None → (are_characters (cut fuel l) ≡ true) × (bytes_of (cut fuel l) ≡ l)
 unfolding first_ill_formed sequence_length cut
 cut_whole zero i [] h e = (refl, refl)
 cut_whole zero i (b ∷ l) h e = absurd (omega arith)
@@ -123,8 +123,8 @@ cut_whole (suc fuel) i (b ∷ l) h e =
     go (sequence_length (b ∷ l)) (front_is rows (b ∷ l)) (λ (n : ℕ) (x : 0 < n). cut_whole fuel (i + n) (drop n (b ∷ l)) (omega (arith, length-drop n (b ∷ l)))) e
   where
     go : (n : ℕ) → (0 < n → is_character (take n (b ∷ l)) ≡ true)
-        → ((m : ℕ) → 0 < m → first_ill_formed fuel (i + m) (drop m (b ∷ l)) ≡ WellFormed → (are_characters (cut fuel (drop m (b ∷ l))) ≡ true) × (bytes_of (cut fuel (drop m (b ∷ l))) ≡ drop m (b ∷ l)))
-        → step (b ∷ l) n i (first_ill_formed fuel (i + n) (drop n (b ∷ l))) ≡ WellFormed
+        → ((m : ℕ) → 0 < m → first_ill_formed fuel (i + m) (drop m (b ∷ l)) ≡ None → (are_characters (cut fuel (drop m (b ∷ l))) ≡ true) × (bytes_of (cut fuel (drop m (b ∷ l))) ≡ drop m (b ∷ l)))
+        → step (b ∷ l) n i (first_ill_formed fuel (i + n) (drop n (b ∷ l))) ≡ None
         → (are_characters (take n (b ∷ l) ∷ cut fuel (drop n (b ∷ l))) ≡ true) × (bytes_of (take n (b ∷ l) ∷ cut fuel (drop n (b ∷ l))) ≡ b ∷ l)
     go zero c r w = let z : ◌≡◌ {A = ℕ} 0 1 = cc in absurd (omega arith)
     go (suc n) c r w =
@@ -132,7 +132,7 @@ cut_whole (suc fuel) i (b ∷ l) h e =
         (rw (c (omega arith)) x.0, rw x.1 (take-append-drop (suc n) (b ∷ l)))
 
 -- the characters of a well-formed list are characters, with its bytes
-pub whole : (l : List ℕ) → utf8_error_lem l ≡ WellFormed → (are_characters (characters l) ≡ true) × (bytes_of (characters l) ≡ l)
+pub whole : (l : List ℕ) → utf8_error_lem l ≡ None → (are_characters (characters l) ≡ true) × (bytes_of (characters l) ≡ l)
 unfolding utf8_error_lem characters
 whole l e = cut_whole (length l) 0 l (omega arith) e
 
@@ -152,7 +152,7 @@ pub only : (cs : List (List ℕ)) → are_characters cs ≡ true → characters 
 unfolding characters
 only cs e = cut_only (length (bytes_of cs)) cs e (omega arith)
 
-well_from : (fuel i : ℕ) (cs : List (List ℕ)) → are_characters cs ≡ true → first_ill_formed fuel i (bytes_of cs) ≡ WellFormed
+well_from : (fuel i : ℕ) (cs : List (List ℕ)) → are_characters cs ≡ true → first_ill_formed fuel i (bytes_of cs) ≡ None
 unfolding first_ill_formed
 well_from zero i cs e = refl
 well_from (suc fuel) i [] e = refl
@@ -161,7 +161,7 @@ well_from (suc fuel) i ((b ∷ c) ∷ cs) e =
     rw (at_front (b ∷ c) (bytes_of cs) (and_left (is_character (b ∷ c)) (are_characters cs) e), drop-append_seam c (bytes_of cs))
     (well_from fuel (i + suc (length c)) cs (and_right (is_character (b ∷ c)) (are_characters cs) e))
 
-pub well : (cs : List (List ℕ)) → are_characters cs ≡ true → utf8_error_lem (bytes_of cs) ≡ WellFormed
+pub well : (cs : List (List ℕ)) → are_characters cs ≡ true → utf8_error_lem (bytes_of cs) ≡ None
 unfolding utf8_error_lem
 well cs e = well_from (length (bytes_of cs)) 0 cs e
 

@@ -10,12 +10,12 @@ use lib.Dec.{leb, ltb}
 use lib.ListN.{length, take, drop, length-append, take-append-drop}
 use lib.Seq.{take-append_seam, drop-append_seam, get_or-append_seam, drop-drop, take-add}
 use borrow.Author.Tests.{eqb-true, leb-true, ltb-true}
+use Rattle.std.specs.Prelude.{None}
 use Rattle.source.proofs.Bools.{and_left, and_right}
 use Rattle.utf8.specs.Table.{utf8_error_lem}
-use Rattle.utf8.specs.declared.Utf8.TheVariants.{WellFormed}
+use Rattle.std.specs.Prelude as Prelude
 use Rattle.raw_token.specs.Pattern.{continues_name}
-use Rattle.raw_token.specs.Table.{Pattern, literal, int, string, name, float, len, table, token_at_lem}
-use Rattle.raw_token.specs.declared.RawToken.TheVariants.{Found}
+use Rattle.raw_token.specs.Table.{raw_token, Pattern, literal, int, string, name, float, len, table, token_at_lem}
 use Rattle.raw_token.proofs.Laws.{all, matched}
 use Rattle.raw_token.proofs.Within.{token_within}
 use Rattle.lexical.specs.Matches.{byte, Character, character, ◌then◌, joined, left, right, absent, present, Some, last, more, Digits, Int, Fraction, Float, Name, Quoted, Matches}
@@ -26,17 +26,17 @@ use Rattle.lexical.proofs.Patterns.{filled, finds}
 -- ---- a place between characters
 
 -- behind a well-formed list that stands there
-pub passed : (s : List ℕ) (at n : ℕ) → Between s at → utf8_error_lem (take n (drop at s)) ≡ WellFormed → Between s (at + n)
+pub passed : (s : List ℕ) (at n : ℕ) → Between s at → utf8_error_lem (take n (drop at s)) ≡ None → Between s (at + n)
 passed s at n b w =
     let e : take n (drop at s) ++ drop (at + n) s ≡ drop at s = rw (← drop-drop n at s) (take-append-drop n (drop at s)) in
     (rw (take-add at n s) (both_well (take at s) (take n (drop at s)) b.0 w), behind_well (take n (drop at s)) (drop (at + n) s) w (rw e b.1))
 
 -- behind a byte under 128
-behind_low : (a : List ℕ) (b : ℕ) (r : List ℕ) → b < 128 → utf8_error_lem (a ++ b ∷ r) ≡ WellFormed → (utf8_error_lem (a ++ b ∷ []) ≡ WellFormed) × (utf8_error_lem r ≡ WellFormed)
+behind_low : (a : List ℕ) (b : ℕ) (r : List ℕ) → b < 128 → utf8_error_lem (a ++ b ∷ r) ≡ None → (utf8_error_lem (a ++ b ∷ []) ≡ None) × (utf8_error_lem r ≡ None)
 behind_low a b r h w =
     let x = between_characters (a ++ b ∷ r) (length a) w (omega (arith, length-append a (b ∷ r))) (rw (get_or-append_seam a b r 0) h) in
-    let f : utf8_error_lem a ≡ WellFormed = rw (take-append_seam a (b ∷ r)) at x.0 in
-    let g : utf8_error_lem (b ∷ r) ≡ WellFormed = rw (drop-append_seam a (b ∷ r)) at x.1 in
+    let f : utf8_error_lem a ≡ None = rw (take-append_seam a (b ∷ r)) at x.0 in
+    let g : utf8_error_lem (b ∷ r) ≡ None = rw (drop-append_seam a (b ∷ r)) at x.1 in
     (both_well a (b ∷ []) f (low_well b h), behind_well (b ∷ []) r (low_well b h) g)
 
 -- ---- the words of the patterns
@@ -84,18 +84,18 @@ text_low (b ∷ []) e = low_byte b (ltb-true b 128 e)
 text_low (a ∷ b ∷ t) e = low_behind (a ∷ []) (text_low (b ∷ t) e)
 
 -- a name is whole characters
-some_well : (c : ℕ → Bool) {w : List ℕ} → Some (Character c) w → utf8_error_lem w ≡ WellFormed
+some_well : (c : ℕ → Bool) {w : List ℕ} → Some (Character c) w → utf8_error_lem w ≡ None
 some_well c (last {w = w} (character i h)) = character_well w i
 some_well c (more {u = u} {v = v} (character i h) r) = both_well u v (character_well u i) (some_well c r)
 
-name_well : {w : List ℕ} → Name w → utf8_error_lem w ≡ WellFormed
+name_well : {w : List ℕ} → Name w → utf8_error_lem w ≡ None
 name_well (joined {u = u} (character i h) absent) = rw (append-nil u) (character_well u i)
 name_well (joined {u = u} {v = v} (character i h) (present r)) = both_well u v (character_well u i) (some_well continues_name r)
 
 -- so a word has a last byte under 128, or is well-formed
 data Ends (w : List ℕ) : Type 0 where
   by_low : Low w → Ends w
-  by_characters : utf8_error_lem w ≡ WellFormed → Ends w
+  by_characters : utf8_error_lem w ≡ None → Ends w
 
 -- what is asked of each entry of the table: it has a byte, and a text's last is under 128
 abbrev closed : Pattern → Bool
@@ -122,7 +122,7 @@ ends float h w = by_low (float_low w)
 
 -- ---- the tokens
 
-module _ (s : List ℕ) (at code end : ℕ) (w : utf8_error_lem s ≡ WellFormed) (f : token_at_lem s at ≡ Found code end) where
+module _ (s : List ℕ) (at code end : ℕ) (w : utf8_error_lem s ≡ None) (f : token_at_lem s at ≡ Prelude.Some (raw_token code end)) where
   -- a token that starts between characters ends between them
   pub ends_at : Between s at → Between s end
   ends_at b =
@@ -141,5 +141,5 @@ module _ (s : List ℕ) (at code end : ℕ) (w : utf8_error_lem s ≡ WellFormed
           rw e (behind_low (take at s ++ x.front) x.final (drop (at + n) s) x.low (rw d w))
 
 -- any token that the table finds in a well-formed source ends between characters
-pub token_ends : (s : List ℕ) (at code end : ℕ) → utf8_error_lem s ≡ WellFormed → token_at_lem s at ≡ Found code end → Between s end
+pub token_ends : (s : List ℕ) (at code end : ℕ) → utf8_error_lem s ≡ None → token_at_lem s at ≡ Prelude.Some (raw_token code end) → Between s end
 token_ends s at code end w f = ends_at s at code end w f (token_starts s at code end w f)

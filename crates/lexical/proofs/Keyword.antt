@@ -9,11 +9,11 @@ use Prim.Native.Nat.{ℕ}
 use native.Mathlib.Omega.{arith}
 use lib.Dec.{eqb}
 use lib.ListN.{take, drop, take-append-drop}
+use Rattle.std.specs.Prelude.{Some}
 use Rattle.source.specs.Bytes.{part}
 use Rattle.source.proofs.Lists.{part_cons}
 use Rattle.token.specs.Code.{Identifier}
-use Rattle.raw_token.specs.Table.{Pattern, literal, int, string, name, float, Entry, table, token_at_lem}
-use Rattle.raw_token.specs.declared.RawToken.TheVariants.{Found}
+use Rattle.raw_token.specs.Table.{raw_token, Pattern, literal, int, string, name, float, Entry, table, token_at_lem}
 use Rattle.raw_token.proofs.First.{starts}
 use Rattle.raw_token.proofs.Laws.{all, name_first}
 use Rattle.lexical.specs.Longest.{Longest, Wins}
@@ -45,7 +45,7 @@ earlier (z ∷ k) o (a ∷ b) v {x} {y} e h m =
     let q : z ≡ a = cc in
     ⊎_elim (λ r. Memᴰ.head (r ∙ q)) (λ n. Memᴰ.tail (earlier k o b v t (λ n'. h (Memᴰ.tail n')) n)) (Memᴰ.cases_cons m)
 
-module _ (s : List ℕ) (at end : ℕ) (e : token_at_lem s at ≡ Found Identifier end) (code : ℕ) (t : List ℕ) (is : part s at end ≡ t) where
+module _ (s : List ℕ) (at end : ℕ) (e : token_at_lem s at ≡ Some (raw_token Identifier end)) (code : ℕ) (t : List ℕ) (is : part s at end ≡ t) where
   win : Longest s at Identifier end
   win = subst (Wins s at) e (longest_match s at)
 

@@ -12,11 +12,11 @@ use lib.Dec.{ltb}
 use lib.ListN.{length, drop, length-drop, take-append-drop}
 use lib.Seq.{length-take-le}
 use borrow.Author.Tests.{ne_eqb, ltb-true, ltb-false}
+use Rattle.std.specs.Prelude.{Option, Some, None}
 use Rattle.source.specs.Bytes.{part}
 use Rattle.source.proofs.Bools.{and_left, and_right}
-use Rattle.raw_token.specs.Table.{Pattern, Entry, len, table, longer, longest, found, token_at_lem}
+use Rattle.raw_token.specs.Table.{raw_token, Pattern, Entry, len, table, longer, longest, found, token_at_lem}
 use Rattle.raw_token.specs.declared.RawToken.{RawToken}
-use Rattle.raw_token.specs.declared.RawToken.TheVariants.{Found, NoMatch}
 use Rattle.raw_token.proofs.Laws.{all}
 use Rattle.lexical.specs.Longest.{Front, Longest, Wins}
 use Rattle.lexical.proofs.Patterns.{filled, length_is}
@@ -66,9 +66,9 @@ after (x ∷ es) best l = go (ltb best.1 (len x.1 l)) refl (after es (longer bes
     go false h (beaten {new = r} k b) = beaten k (in_front x es l r (omega (arith, ltb-false best.1 (len x.1 l) h)) b)
 
 -- the token at a place, by the lengths of its entries' matches
-abbrev pub ByLength : List ℕ → ℕ → RawToken → Type 0
-ByLength s at (Found code end) = (n : ℕ) × (0 < n) × (end ≡ at + n) × Leads table (drop at s) (code, n)
-ByLength s at NoMatch = (e : Entry) → Memᴰ e table → len e.1 (drop at s) ≡ 0
+abbrev pub ByLength : List ℕ → ℕ → Option RawToken → Type 0
+ByLength s at (Some t) = (n : ℕ) × (0 < n) × (t.end ≡ at + n) × Leads table (drop at s) (t.code, n)
+ByLength s at None = (e : Entry) → Memᴰ e table → len e.1 (drop at s) ≡ 0
 
 pub by_length : (s : List ℕ) (at : ℕ) → ByLength s at (token_at_lem s at)
 unfolding token_at_lem
@@ -98,12 +98,12 @@ stands {x} es before after e = subst (Memᴰ x) (sym e) (Memᴰ.append_right bef
 stands_before : {x : Entry} (es before others : List Entry) → es ≡ before ++ others → Memᴰ x before → Memᴰ x es
 stands_before {x} es before others e m = subst (Memᴰ x) (sym e) (Memᴰ.append_left others m)
 
-wins : (s : List ℕ) (at : ℕ) (t : RawToken) → ByLength s at t → Wins s at t
-wins s at NoMatch z = λ e m w f. (length_is e.1 (table_filled e m) (drop at s)).none (z e m) w f
-wins s at (Found code end) (n, k, q, b) =
-    let own = length_is b.pattern (table_filled (code, b.pattern) (stands table b.before b.after b.entry)) (drop at s) in
+wins : (s : List ℕ) (at : ℕ) (t : Option RawToken) → ByLength s at t → Wins s at t
+wins s at None z = λ e m w f. (length_is e.1 (table_filled e m) (drop at s)).none (z e m) w f
+wins s at (Some t) (n, k, q, b) =
+    let own = length_is b.pattern (table_filled (t.code, b.pattern) (stands table b.before b.after b.entry)) (drop at s) in
     let i = b.is in
-    let d : end - at ≡ len b.pattern (drop at s) = omega arith in
+    let d : t.end - at ≡ len b.pattern (drop at s) = omega arith in
     record {
       some = omega arith;
       within = omega (arith, own.within, length-drop at s);
@@ -149,20 +149,20 @@ module _ (s : List ℕ) (at code end : ℕ) (a : Longest s at code end) where
     not_before : end' - at ≤ end - at → Memᴰ (code, a.pattern) b.before → ⊥
     not_before h m = omega (arith, own_length, b.first (code, a.pattern) m (part s at end) own)
 
-one_winner : (s : List ℕ) (at : ℕ) (t u : RawToken) → Wins s at t → Wins s at u → t ≡ u
-one_winner s at NoMatch NoMatch a b = refl
-one_winner s at (Found c e) NoMatch a b = absurd (b (c, a.pattern) (in_table s at c e a) _ (own s at c e a))
-one_winner s at NoMatch (Found c e) a b = absurd (a (c, b.pattern) (in_table s at c e b) _ (own s at c e b))
-one_winner s at (Found c e) (Found d f) a b =
-    let h = no_longer s at c e a d f b in
-    let k = no_longer s at d f b c e a in
-    let x = same_entry a.before b.before a.after b.after (sym a.entry ∙ b.entry) (not_before s at c e a d f b k) (not_before s at d f b c e a h) in
+one_winner : (s : List ℕ) (at : ℕ) (t u : Option RawToken) → Wins s at t → Wins s at u → t ≡ u
+one_winner s at None None a b = refl
+one_winner s at (Some t) None a b = absurd (b (t.code, a.pattern) (in_table s at t.code t.end a) _ (own s at t.code t.end a))
+one_winner s at None (Some t) a b = absurd (a (t.code, b.pattern) (in_table s at t.code t.end b) _ (own s at t.code t.end b))
+one_winner s at (Some t) (Some u) a b =
+    let h = no_longer s at t.code t.end a u.code u.end b in
+    let k = no_longer s at u.code u.end b t.code t.end a in
+    let x = same_entry a.before b.before a.after b.after (sym a.entry ∙ b.entry) (not_before s at t.code t.end a u.code u.end b k) (not_before s at u.code u.end b t.code t.end a h) in
     let i = a.some in
     let j = b.some in
-    let q : c ≡ d = ap (λ (y : Entry). y.0) x in
-    let r : e ≡ f = omega arith in
-    cc
+    let q : t.code ≡ u.code = ap (λ (y : Entry). y.0) x in
+    let r : t.end ≡ u.end = omega arith in
+    ap (λ (c : ℕ). Some (raw_token c t.end)) q ∙ ap (λ (e : ℕ). Some (raw_token u.code e)) r
 
 -- so `Wins` holds of the token found and of nothing else
-pub no_other : (s : List ℕ) (at : ℕ) (t : RawToken) → Wins s at t → t ≡ token_at_lem s at
+pub no_other : (s : List ℕ) (at : ℕ) (t : Option RawToken) → Wins s at t → t ≡ token_at_lem s at
 no_other s at t a = one_winner s at t (token_at_lem s at) a (longest_match s at)

@@ -10,6 +10,7 @@ use lib.Dec.{eqb}
 use lib.ListN.{length, get_or, take, drop, length-append}
 use lib.Seq.{drop-drop, take-append-add, drop-append-add, take-append_seam}
 use borrow.Author.Tests.{eqb-true}
+use Rattle.std.specs.Prelude.{None, Some}
 use Rattle.source.specs.Bytes.{part}
 use Rattle.source.proofs.Bools.{and_right, or_either}
 use Rattle.source.proofs.Lists.{inside}
@@ -17,11 +18,9 @@ use Rattle.token.specs.Code as Code
 use Rattle.token.specs.Code.{String}
 use Rattle.tokens.specs.Token.{Token, token}
 use Rattle.utf8.specs.Table.{utf8_error_lem}
-use Rattle.utf8.specs.declared.Utf8.TheVariants.{WellFormed}
 use Rattle.raw_token.specs.Pattern.{behind, is_quote}
 use Rattle.raw_token.specs.Parts.{string_at}
-use Rattle.raw_token.specs.Table.{table, found, token_at_lem}
-use Rattle.raw_token.specs.declared.RawToken.TheVariants.{Found}
+use Rattle.raw_token.specs.Table.{raw_token, table, found, token_at_lem}
 use Rattle.raw_token.proofs.First as First
 use Rattle.raw_token.proofs.Laws.{string_token}
 use Rattle.raw_token.proofs.Within.{token_within}
@@ -125,11 +124,11 @@ low_quote b e =
     or_either (eqb b 34) (eqb b 39) (λ x. let n = eqb-true b 34 x in omega arith) (λ x. let n = eqb-true b 39 x in omega arith) e
 
 -- where a quote stands
-module _ (s : List ℕ) (at : ℕ) (w : utf8_error_lem s ≡ WellFormed) (h : is_quote (get_or s at 0) ≡ true) where
+module _ (s : List ℕ) (at : ℕ) (w : utf8_error_lem s ≡ None) (h : is_quote (get_or s at 0) ≡ true) where
   within : at < length s
   within = inside s at (λ z. absurd (true≢false (sym h ∙ ap is_quote z)))
 
-  quote_starts : (utf8_error_lem (take at s) ≡ WellFormed) × (utf8_error_lem (drop at s) ≡ WellFormed)
+  quote_starts : (utf8_error_lem (take at s) ≡ None) × (utf8_error_lem (drop at s) ≡ None)
   quote_starts = between_characters s at w within (low_quote (get_or s at 0) h)
 
   -- the token is the String by characters, and none where by characters none closes
@@ -142,8 +141,8 @@ module _ (s : List ℕ) (at : ℕ) (w : utf8_error_lem s ≡ WellFormed) (h : is
       h
       ∙ ap (λ (n : ℕ). found at (String, n)) (string_of (drop at s) quote_starts.1)
 
-module _ (s : List ℕ) (at end : ℕ) (w : utf8_error_lem s ≡ WellFormed) (f : token_at_lem s at ≡ Found String end) where
-  starts_whole : (utf8_error_lem (take at s) ≡ WellFormed) × (utf8_error_lem (drop at s) ≡ WellFormed)
+module _ (s : List ℕ) (at end : ℕ) (w : utf8_error_lem s ≡ None) (f : token_at_lem s at ≡ Some (raw_token String end)) where
+  starts_whole : (utf8_error_lem (take at s) ≡ None) × (utf8_error_lem (drop at s) ≡ None)
   starts_whole = quote_starts s at w (string_token s at end f).1
 
   same_end : end ≡ at + string (characters (drop at s))
@@ -167,7 +166,7 @@ module _ (s : List ℕ) (at end : ℕ) (w : utf8_error_lem s ≡ WellFormed) (f 
           let each : are_characters (q.inner ++ k) ≡ true = and_right (is_character (q.quote ∷ [])) (are_characters (q.inner ++ k)) (ap are_characters (sym q.is_all) ∙ x.0) in
           let inner_is : unquoted (part s at end) ≡ m = rw (span, l_is) (unquoted_is q.quote m r) in
           let rest_here : drop end s ≡ r = rw (far, ← drop-drop (length m + 2) at s, l_is) (rest_is q.quote m r) in
-          let inner_well : utf8_error_lem (unquoted (part s at end)) ≡ WellFormed = rw inner_is (well q.inner (are_left q.inner k each)) in
+          let inner_well : utf8_error_lem (unquoted (part s at end)) ≡ None = rw inner_is (well q.inner (are_left q.inner k each)) in
           record {
             before = starts_whole.0;
             onward = starts_whole.1;
@@ -183,12 +182,12 @@ module _ (s : List ℕ) (at end : ℕ) (w : utf8_error_lem s ≡ WellFormed) (f 
 abbrev pub StringByCharacters : List ℕ → Token → Type 0
 StringByCharacters s t = t.code ≡ String → ByCharacters s t.start t.end
 
-each_by_characters : {s : List ℕ} {lo hi depth used : ℕ} {ts : List Token} {bs : List ℕ} → utf8_error_lem s ≡ WellFormed → Tokens s lo hi depth used ts bs → Each (StringByCharacters s) ts
+each_by_characters : {s : List ℕ} {lo hi depth used : ℕ} {ts : List Token} {bs : List ℕ} → utf8_error_lem s ≡ None → Tokens s lo hi depth used ts bs → Each (StringByCharacters s) ts
 each_by_characters w (indent {start} {end} h k m n t) = more {t = mark Code.Indent start end} (λ c. absurd (omega arith)) (each_by_characters w t)
 each_by_characters w (dedent {start} {end} h k m n t) = more {t = mark Code.Dedent start end} (λ c. absurd (omega arith)) (each_by_characters w t)
 each_by_characters {s} w (raw {start} {code} {end} {v} h k e f t) =
     more {t = token code start end v} (λ c. by_characters s start end w (rw c at e)) (each_by_characters w t)
 each_by_characters {s} w (eof h k) = more {t = mark Code.Eof (length s) (length s)} (λ c. absurd (omega arith)) none
 
-pub strings_by_characters : (s : List ℕ) (ts : List Token) (bs : List ℕ) → utf8_error_lem s ≡ WellFormed → token_list s ≡ scanned ts bs → Each (StringByCharacters s) ts
+pub strings_by_characters : (s : List ℕ) (ts : List Token) (bs : List ℕ) → utf8_error_lem s ≡ None → token_list s ≡ scanned ts bs → Each (StringByCharacters s) ts
 strings_by_characters s ts bs w e = each_by_characters w (promise s ts bs e)

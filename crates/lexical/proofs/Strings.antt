@@ -9,9 +9,9 @@ use native.Mathlib.Omega.{arith}
 use lib.Dec.{eqb, leb}
 use lib.ListN.{length}
 use borrow.Author.Tests.{leb-true, eqb-true, ne_eqb}
+use Rattle.std.specs.Prelude.{None}
 use Rattle.source.proofs.Bools.{and_left, and_right}
 use Rattle.utf8.specs.Table.{utf8_error_lem}
-use Rattle.utf8.specs.declared.Utf8.TheVariants.{WellFormed}
 use Rattle.raw_token.specs.Pattern as P
 use Rattle.raw_token.specs.Pattern.{behind, body}
 use Rattle.raw_token.proofs.Steps.{behind_zero, behind_behind}
@@ -154,7 +154,7 @@ unfolding D.decoded
 decoded_is cs e = decoded_from cs e
 
 -- the same of a well-formed list of bytes and its characters
-module _ (l : List ℕ) (w : utf8_error_lem l ≡ WellFormed) where
+module _ (l : List ℕ) (w : utf8_error_lem l ≡ None) where
   pub string_of : P.string l ≡ string (characters l)
   string_of = let x = whole l w in ap P.string (sym x.1) ∙ sym (string_is (characters l) x.0)
 

@@ -9,10 +9,10 @@ use lib.Dec.{eqb, leb, ltb}
 use lib.ListN.{length, get_or, drop}
 use lib.Seq.{take-append_seam, drop-append_seam}
 use borrow.Author.Tests.{eqb-true, leb-true, ltb-true, lt-ltb}
+use Rattle.std.specs.Prelude.{None}
 use Rattle.source.specs.Bytes.{between}
 use Rattle.source.proofs.Bools.{and_left, and_right, and_assoc, or_either}
 use Rattle.utf8.specs.Table.{Row, rows, fits, utf8_error_lem}
-use Rattle.utf8.specs.declared.Utf8.TheVariants.{WellFormed}
 use Rattle.utf8.proofs.Rows.{low_sequence}
 use Rattle.lexical.specs.Characters.{is_of, is_character, are_characters, bytes_of, cut, characters}
 use Rattle.lexical.proofs.Characters.{at_front, front_is_character, not_empty, whole, well}
@@ -35,7 +35,7 @@ are_right a b e = and_right (are_characters a) (are_characters b) (sym (are_appe
 
 -- ---- well-formed lists one behind the other
 
-pub both_well : (a b : List ℕ) → utf8_error_lem a ≡ WellFormed → utf8_error_lem b ≡ WellFormed → utf8_error_lem (a ++ b) ≡ WellFormed
+pub both_well : (a b : List ℕ) → utf8_error_lem a ≡ None → utf8_error_lem b ≡ None → utf8_error_lem (a ++ b) ≡ None
 both_well a b w v =
     let x = whole a w in
     let y = whole b v in
@@ -43,31 +43,31 @@ both_well a b w v =
     rw (← e) (well (characters a ++ characters b) (are_append (characters a) (characters b) ∙ rw (x.0, y.0)))
 
 -- what follows a character in a well-formed list is well-formed
-behind_character : (c r : List ℕ) → is_character c ≡ true → utf8_error_lem (c ++ r) ≡ WellFormed → utf8_error_lem r ≡ WellFormed
+behind_character : (c r : List ℕ) → is_character c ≡ true → utf8_error_lem (c ++ r) ≡ None → utf8_error_lem r ≡ None
 unfolding characters cut
 behind_character [] r i w = absurd (not_empty i)
 behind_character (b ∷ c) r i w = go (length (c ++ r)) (rw (at_front (b ∷ c) r i, take-append_seam c r, drop-append_seam c r) at (whole (b ∷ (c ++ r)) w))
   where
-    go : (n : ℕ) → (are_characters ((b ∷ c) ∷ cut n r) ≡ true) × (bytes_of ((b ∷ c) ∷ cut n r) ≡ (b ∷ c) ++ r) → utf8_error_lem r ≡ WellFormed
+    go : (n : ℕ) → (are_characters ((b ∷ c) ∷ cut n r) ≡ true) × (bytes_of ((b ∷ c) ∷ cut n r) ≡ (b ∷ c) ++ r) → utf8_error_lem r ≡ None
     go n x =
         let e : bytes_of (cut n r) ≡ r = sym (drop-append_seam (b ∷ c) (bytes_of (cut n r))) ∙ ap (drop (length (b ∷ c))) x.1 ∙ drop-append_seam (b ∷ c) r in
         rw e at (well (cut n r) (and_right (is_character (b ∷ c)) (are_characters (cut n r)) x.0))
 
-behind_characters : (cs : List (List ℕ)) (r : List ℕ) → are_characters cs ≡ true → utf8_error_lem (bytes_of cs ++ r) ≡ WellFormed → utf8_error_lem r ≡ WellFormed
+behind_characters : (cs : List (List ℕ)) (r : List ℕ) → are_characters cs ≡ true → utf8_error_lem (bytes_of cs ++ r) ≡ None → utf8_error_lem r ≡ None
 behind_characters [] r e w = w
 behind_characters (c ∷ cs) r e w =
     behind_characters cs r (and_right (is_character c) (are_characters cs) e)
     (behind_character c (bytes_of cs ++ r) (and_left (is_character c) (are_characters cs) e) (rw (append_assoc c (bytes_of cs) r) at w))
 
 -- and what follows a well-formed list in one
-pub behind_well : (a r : List ℕ) → utf8_error_lem a ≡ WellFormed → utf8_error_lem (a ++ r) ≡ WellFormed → utf8_error_lem r ≡ WellFormed
+pub behind_well : (a r : List ℕ) → utf8_error_lem a ≡ None → utf8_error_lem (a ++ r) ≡ None → utf8_error_lem r ≡ None
 behind_well a r w v = let x = whole a w in behind_characters (characters a) r x.0 (rw x.1 v)
 
 -- one character, and a byte under 128
-pub character_well : (c : List ℕ) → is_character c ≡ true → utf8_error_lem c ≡ WellFormed
+pub character_well : (c : List ℕ) → is_character c ≡ true → utf8_error_lem c ≡ None
 character_well c i = rw (append-nil c) at (well (c ∷ []) (rw i))
 
-pub low_well : (b : ℕ) → b < 128 → utf8_error_lem (b ∷ []) ≡ WellFormed
+pub low_well : (b : ℕ) → b < 128 → utf8_error_lem (b ∷ []) ≡ None
 low_well b h =
     character_well (b ∷ []) (rw (low_sequence b [] h) at (front_is_character (b ∷ []) (rw (low_sequence b [] h) (omega arith))))
 
@@ -122,5 +122,5 @@ characters_bytes (c ∷ cs) e =
     bytes_both c (bytes_of cs) (of_bytes rows c rows_bytes (and_left (is_character c) (are_characters cs) e)) (characters_bytes cs (and_right (is_character c) (are_characters cs) e))
 
 -- a byte of a well-formed list is under 256
-pub byte_below : (l : List ℕ) (i : ℕ) → utf8_error_lem l ≡ WellFormed → get_or l i 0 < 256
+pub byte_below : (l : List ℕ) (i : ℕ) → utf8_error_lem l ≡ None → get_or l i 0 < 256
 byte_below l i w = let x = whole l w in bytes-at l i (rw x.1 at (characters_bytes (characters l) x.0))

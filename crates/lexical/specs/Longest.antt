@@ -1,12 +1,11 @@
 -- The token at a place by the words that stand there: "The longest match wins; at equal length a keyword beats a name" (01, Raw tokens). The
 -- keywords stand before the name in the table, and of entries with words as long the first wins.
 -- Assumes nothing.
-use Rattle.std.specs.Prelude.{ℕ, ◌-◌, ◌≤◌, ◌<◌, ◌≡◌, length, drop}
+use Rattle.std.specs.Prelude.{ℕ, ◌-◌, ◌≤◌, ◌<◌, ◌≡◌, length, drop, Option, Some, None}
 use mathlib.Core.List.{List, ◌∷◌, ◌++◌, Memᴰ}
 use Rattle.source.specs.Bytes.{part}
 use Rattle.raw_token.specs.Table.{Pattern, Entry, table}
 use Rattle.raw_token.specs.declared.RawToken.{RawToken}
-use Rattle.raw_token.specs.declared.RawToken.TheVariants.{Found, NoMatch}
 use Rattle.lexical.specs.Matches.{Matches}
 
 -- the word w of p stands at the front of l
@@ -29,6 +28,6 @@ pub record Longest (s : List ℕ) (at code end : ℕ) : Type 0 where
   pub first : (e : Entry) → Memᴰ e before → (w : List ℕ) → Front e.1 (drop at s) w → length w < end - at
 
 -- what the sentence says of the token at a place; where there is none, no entry has a word there
-abbrev pub Wins : List ℕ → ℕ → RawToken → Type 0
-Wins s at (Found code end) = Longest s at code end
-Wins s at NoMatch = (e : Entry) → Memᴰ e table → (w : List ℕ) → Front e.1 (drop at s) w → ⊥
+abbrev pub Wins : List ℕ → ℕ → Option RawToken → Type 0
+Wins s at (Some t) = Longest s at t.code t.end
+Wins s at None = (e : Entry) → Memᴰ e table → (w : List ℕ) → Front e.1 (drop at s) w → ⊥

@@ -3,10 +3,9 @@
 -- raw_token and `decoded` of strings. That both come to the same in well-formed UTF-8 is shown in proofs/Strings.antt (`string_is`,
 -- `decoded_is`).
 -- Assumes nothing.
-use Rattle.std.specs.Prelude.{ℕ, ◌+◌, ◌≡◌, Bool, false, cond, List, [], ◌∷◌, ◌++◌, eqb, length, take, drop}
+use Rattle.std.specs.Prelude.{ℕ, ◌+◌, ◌≡◌, Bool, false, cond, List, [], ◌∷◌, ◌++◌, eqb, length, take, drop, None}
 use Rattle.source.specs.Bytes.{part}
 use Rattle.utf8.specs.Table.{utf8_error_lem}
-use Rattle.utf8.specs.declared.Utf8.TheVariants.{WellFormed}
 use Rattle.raw_token.specs.Pattern.{behind}
 use Rattle.strings.specs.Decoded as D
 use Rattle.strings.specs.Decoded.{escape}
@@ -49,9 +48,9 @@ decoded (c ∷ d ∷ cs) = cond (is 92 c) (escaped d ++ decoded cs) (c ++ decode
 -- What is so of a String from `at` up to `end` of the source s: what stands before it, from it on, between its quotes and behind it is whole
 -- characters; by these it ends where it does, and stands for the bytes that it does
 pub record ByCharacters (s : List ℕ) (at end : ℕ) : Type 0 where
-  pub before : utf8_error_lem (take at s) ≡ WellFormed
-  pub onward : utf8_error_lem (drop at s) ≡ WellFormed
-  pub between : utf8_error_lem (unquoted (part s at end)) ≡ WellFormed
-  pub after : utf8_error_lem (drop end s) ≡ WellFormed
+  pub before : utf8_error_lem (take at s) ≡ None
+  pub onward : utf8_error_lem (drop at s) ≡ None
+  pub between : utf8_error_lem (unquoted (part s at end)) ≡ None
+  pub after : utf8_error_lem (drop end s) ≡ None
   pub end_is : end ≡ at + string (characters (drop at s))
   pub text_is : D.decoded (unquoted (part s at end)) ≡ decoded (characters (unquoted (part s at end)))

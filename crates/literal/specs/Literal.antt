@@ -1,33 +1,25 @@
 -- The literal that a token stands for. Document 01: "Literal has cases Bool, Int(i64), String place and length, Float(f64), None"; an Int out
 -- of range and a Float that is not admitted have none.
 -- Assumes nothing.
-use Rattle.std.specs.Prelude.{ℕ, ◌-◌, Bool, true, not, List, length}
+use Rattle.std.specs.Prelude.{ℕ, ◌-◌, Bool, true, not, List, length, ℤ, Float, Option, option_map}
 use Rattle.std.specs.Float.Ieee.{is_nan}
 use Rattle.source.specs.Bytes.{part}
-use Rattle.numbers.specs.declared.decimal.Decimal.{Decimal}
-use Rattle.numbers.specs.declared.decimal.Decimal.TheVariants as D
-use Rattle.numbers.specs.declared.integer.Integer.{Integer}
-use Rattle.numbers.specs.declared.integer.Integer.TheVariants as I
 use Rattle.numbers.specs.Decimal.{decimal_of}
 use Rattle.numbers.specs.Integer.{integer_of}
 use Rattle.strings.specs.Decoded.{decoded}
 use Rattle.literal.specs.declared.Literal.{Literal}
 use Rattle.literal.specs.declared.Literal.TheVariants as L
-use Rattle.literal.specs.declared.Lexed.{Lexed}
-use Rattle.literal.specs.declared.Lexed.TheVariants.{Value, Refused}
 
-abbrev pub of_integer : Integer → Lexed
-of_integer (I.Value n) = Value (L.Int n)
-of_integer I.OutOfRange = Refused
+abbrev pub of_integer : Option ℤ → Option Literal
+of_integer n = option_map L.Int n
 
-abbrev pub of_decimal : Decimal → Lexed
-of_decimal (D.Value x) = Value (L.Float x)
-of_decimal D.NotAdmitted = Refused
+abbrev pub of_decimal : Option Float → Option Literal
+of_decimal x = option_map L.Float x
 
-unfoldable pub lex_integer_lem : List ℕ → Lexed
+unfoldable pub lex_integer_lem : List ℕ → Option Literal
 lex_integer_lem s = of_integer (integer_of s)
 
-unfoldable pub lex_float_lem : List ℕ → Lexed
+unfoldable pub lex_float_lem : List ℕ → Option Literal
 lex_float_lem s = of_decimal (decimal_of s)
 
 -- what stands between the quotes of a String token

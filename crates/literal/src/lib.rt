@@ -14,29 +14,18 @@ pub enum Literal {
     None,
 }
 
-#[derive(Clone, Copy)]
-pub enum Lexed {
-    Value(Literal),
-    // An Int out of range, or a Float that is not admitted.
-    Refused,
-}
-
-pub fn lex_integer(s: &[u8]) -> Lexed
+// None where it is out of range.
+pub fn lex_integer(s: &[u8]) -> Option<Literal>
     ensures { result ≡ lex_integer_lem s.now }
 {
-    match numbers::integer::int_value(s) {
-        numbers::integer::Integer::Value(n) => Lexed::Value(Literal::Int(n)),
-        numbers::integer::Integer::OutOfRange => Lexed::Refused,
-    }
+    numbers::integer::int_value(s).map(Literal::Int)
 }
 
-pub fn lex_float(s: &[u8]) -> Lexed
+// None where it is not admitted.
+pub fn lex_float(s: &[u8]) -> Option<Literal>
     ensures { result ≡ lex_float_lem s.now }
 {
-    match numbers::decimal::float_value(s) {
-        numbers::decimal::Decimal::Value(x) => Lexed::Value(Literal::Float(x)),
-        numbers::decimal::Decimal::NotAdmitted => Lexed::Refused,
-    }
+    numbers::decimal::float_value(s).map(Literal::Float)
 }
 
 // The String token s, with its quotes: the decoded bytes of what stands between them have their place in the text at `at`.

@@ -12,31 +12,30 @@ use borrow.Author.Tests.{le-leb, lt-leb}
 use lib.Ieee.{Float, binary64, mul, div}
 use lib.ListN.{length, take, drop, length-drop, drop_of_length-le}
 use lib.Seq.{take_all}
+use Rattle.std.specs.Prelude.{Option, Some, None}
 use Rattle.numbers.specs.declared.decimal.Scale.{Scale}
 use Rattle.numbers.specs.declared.decimal.Scale.TheVariants.{Times, Over}
-use Rattle.numbers.specs.declared.decimal.Decimal.{Decimal}
-use Rattle.numbers.specs.declared.decimal.Decimal.TheVariants.{Value, NotAdmitted}
 use Rattle.numbers.specs.Digits.{number, is_minus, place}
 use Rattle.numbers.specs.Decimal.{whole, scale_of, value_of, after_dot, decimal_of}
 
 -- ---- the cases of the definition
 
-pub big : (m : ℕ) (p : Scale) → 9007199254740992 < m → NotAdmitted ≡ value_of m p
+pub big : (m : ℕ) (p : Scale) → 9007199254740992 < m → None ≡ value_of m p
 big m (Times k) h = simp (lt-leb m 9007199254740992 h)
 big m (Over k) h = simp (lt-leb m 9007199254740992 h)
 
-pub far_times : (m k : ℕ) → 22 < k → NotAdmitted ≡ value_of m (Times k)
+pub far_times : (m k : ℕ) → 22 < k → None ≡ value_of m (Times k)
 far_times m k h = simp (lt-leb k 22 h, and-false)
 
-pub far_over : (m k : ℕ) → 22 < k → NotAdmitted ≡ value_of m (Over k)
+pub far_over : (m k : ℕ) → 22 < k → None ≡ value_of m (Over k)
 far_over m k h = simp (lt-leb k 22 h, and-false)
 
 module _ (m k : ℕ) (t : Float) (h : m ≤ 9007199254740992) (l : k ≤ 22) (e : t ≡ whole (10 ^ k)) where
-  pub times : Value (mul binary64 (whole m) t) ≡ value_of m (Times k)
-  times = ap (λ (x : Float). Value (mul binary64 (whole m) x)) e ∙ simp (le-leb m 9007199254740992 h, le-leb k 22 l)
+  pub times : Some (mul binary64 (whole m) t) ≡ value_of m (Times k)
+  times = ap (λ (x : Float). Some (mul binary64 (whole m) x)) e ∙ simp (le-leb m 9007199254740992 h, le-leb k 22 l)
 
-  pub over : Value (div binary64 (whole m) t) ≡ value_of m (Over k)
-  over = ap (λ (x : Float). Value (div binary64 (whole m) x)) e ∙ simp (le-leb m 9007199254740992 h, le-leb k 22 l)
+  pub over : Some (div binary64 (whole m) t) ≡ value_of m (Over k)
+  over = ap (λ (x : Float). Some (div binary64 (whole m) x)) e ∙ simp (le-leb m 9007199254740992 h, le-leb k 22 l)
 
 -- ---- the caps
 
@@ -52,7 +51,7 @@ abbrev pub limit : Bool → ℕ → ℕ
 limit true places = 23
 limit false places = places + 23
 
-far : (m : ℕ) (minus : Bool) (e places : ℕ) → limit minus places ≤ e → NotAdmitted ≡ value_of m (scale_of minus e places)
+far : (m : ℕ) (minus : Bool) (e places : ℕ) → limit minus places ≤ e → None ≡ value_of m (scale_of minus e places)
 far m true e places h = far_over m (e + places) (omega arith)
 far m false e places h =
     let s : places ≤ e = omega arith in
@@ -90,7 +89,7 @@ none s e places h =
     sym (ap (λ (l : List ℕ). scale_of (is_minus l) (number 0 l) places) q)
 
 -- what the parts of `float_value` give, taken together
-module _ (s : List ℕ) (e m after : ℕ) (p : Scale) (r : Decimal) (x : List ℕ) where
+module _ (s : List ℕ) (e m after : ℕ) (p : Scale) (r : Option Float) (x : List ℕ) where
   pub assembled : e ≡ place 101 69 s → x ≡ drop (e + 1) s → m ≡ min 9007199254740993 (number 0 (take e s))
       → after ≡ length (after_dot (take e s)) → value_of m p ≡ value_of m (scale_of (is_minus x) (number 0 x) after) → r ≡ value_of m p
       → r ≡ decimal_of s

@@ -4,5 +4,4 @@ pub mod Halved
 pub mod Joining
 pub mod Nearest
 pub mod Negation
-pub mod Signed
 pub mod Written

@@ -12,11 +12,10 @@ use lib.Ieee.Fits.{down_pos, and_l, and_r, round_is}
 use lib.Ieee.Exact.{HasValue}
 use lib.Ieee.Back.{round_whole}
 use lib.Ieee.Scale.{round_same}
+use Rattle.std.specs.Prelude.{Option, Some, None}
 use Rattle.numbers.specs.declared.decimal.Scale.{Scale}
 use Rattle.numbers.specs.declared.decimal.Scale.TheVariants.{Times, Over}
-use Rattle.numbers.specs.declared.decimal.Decimal.TheVariants.{Value, NotAdmitted}
 use mathlib.Core.List.{List}
-use Rattle.numbers.specs.declared.decimal.Decimal.{Decimal}
 use Rattle.numbers.specs.Decimal.{whole, value_of, joined_digits, power_of_ten, decimal_of}
 
 -- ---- a test at 0 to n - 1, computed once, as a rule
@@ -145,14 +144,14 @@ denominator (Times k) = 1
 denominator (Over k) = 10 ^ k
 
 -- what holds of each value that d has
-abbrev pub OfValue : (Float → Type 0) → Decimal → Type 0
-OfValue P (Value x) = P x
-OfValue P NotAdmitted = Unit {0}
+abbrev pub OfValue : (Float → Type 0) → Option Float → Type 0
+OfValue P (Some x) = P x
+OfValue P None = Unit {0}
 
-admitted : (P : Float → Type 0) (m k : ℕ) (x : Float) → (m ≤ 9007199254740992 → k ≤ 22 → P x) → OfValue P (cond (leb m (2 ^ 53) && leb k 22) (Value x) NotAdmitted)
+admitted : (P : Float → Type 0) (m k : ℕ) (x : Float) → (m ≤ 9007199254740992 → k ≤ 22 → P x) → OfValue P (cond (leb m (2 ^ 53) && leb k 22) (Some x) None)
 admitted P m k x f = go (leb m (2 ^ 53)) (leb k 22) (λ t. leb→le m 9007199254740992 t) (λ t. leb→le k 22 t)
   where
-    go : (a b : Bool) → (T a → m ≤ 9007199254740992) → (T b → k ≤ 22) → OfValue P (cond (a && b) (Value x) NotAdmitted)
+    go : (a b : Bool) → (T a → m ≤ 9007199254740992) → (T b → k ≤ 22) → OfValue P (cond (a && b) (Some x) None)
     go true true p q = f (p tt) (q tt)
     go true false p q = tt
     go false b p q = tt
@@ -162,14 +161,14 @@ pub value_nearest : (m : ℕ) (p : Scale) → OfValue (λ x. x ≡ round binary6
 value_nearest m (Times k) = admitted _ m k _ (times_nearest m k)
 value_nearest m (Over k) = admitted _ m k _ (over_nearest m k)
 
-pub nearest : (s : List ℕ) (x : Float) → decimal_of s ≡ Value x → x ≡ round binary64 false (numerator (joined_digits s) (power_of_ten s)) (denominator (power_of_ten s))
+pub nearest : (s : List ℕ) (x : Float) → decimal_of s ≡ Some x → x ≡ round binary64 false (numerator (joined_digits s) (power_of_ten s)) (denominator (power_of_ten s))
 unfolding decimal_of
 nearest s x e =
     subst (OfValue (λ y. y ≡ round binary64 false (numerator (joined_digits s) (power_of_ten s)) (denominator (power_of_ten s)))) e
     (value_nearest (joined_digits s) (power_of_ten s))
 
 -- so it has bits of its own
-pub no_nan : (s : List ℕ) (x : Float) → decimal_of s ≡ Value x → T (not (is_nan x))
+pub no_nan : (s : List ℕ) (x : Float) → decimal_of s ≡ Some x → T (not (is_nan x))
 no_nan s x e =
     subst (λ (y : Float). T (not (is_nan y))) (sym (nearest s x e))
     (round_no_nan binary64 false (numerator (joined_digits s) (power_of_ten s)) (denominator (power_of_ten s)))

@@ -1,56 +1,50 @@
 -- The value of an Int by its sign, and that digits that stop at 2^63 + 1 change no value.
 -- Assumes nothing.
-use mathlib.Core.Path.{◌≡◌, refl, sym, ap, ◌∙◌}
-use mathlib.Core.Bool.{Bool, true, false}
+use mathlib.Core.Path.{◌≡◌, refl, sym, ap, ◌∙◌, subst⁻¹}
+use mathlib.Core.Bool.{Bool, true, false, cond}
 use Prim.Native.Nat.{ℕ, zero, suc, ◌^◌, ◌<◌, ◌≤◌, min}
 use native.Mathlib.Decide.{dec_le}
 use native.Mathlib.Omega.{arith}
-use lib.IntN.{ℤ, pos, neg_ℤ, ◌-ℤ◌, +ℤ_idl}
+use lib.IntN.{ℤ, pos, negsuc, neg_ℤ, ◌-ℤ◌, +ℤ_idl}
 use mir.Syntax.{w64}
-use mir.Val.{SFits, to_z, of_z}
-use mir.ValLaws.{to_z_pos, to_z-of_z}
-use borrow.Author.Tests.{lt-ltb, le-ltb}
+use borrow.Author.Tests.{le-ltb, ltb-true, ltb-false}
 use mathlib.Core.List.{List}
+use Rattle.std.specs.Prelude.{Option, Some, None, Result, Ok, Err, FitsSigned, SomeIff, OkIff}
+use Rattle.std.specs.Result.{result_ok}
 use Rattle.numbers.specs.Digits.{number, is_minus}
-use Rattle.numbers.specs.Integer.{in_range, signed, integer_of}
-use Rattle.numbers.specs.declared.integer.Integer.TheVariants.{Value, OutOfRange}
+use Rattle.numbers.specs.Integer.{in_i64, in_range, signed, integer_of}
 
-pub val_pos : (m : ℕ) → m < 2 ^ 63 → in_range (pos m) ≡ Value (pos m)
+-- what is given exactly where it fits an i64 is the value
+fits : (z : ℤ) → in_i64 z ≡ true → FitsSigned w64 z
+fits (pos n) e = record { sfits = ltb-true n (2 ^ 63) e }
+fits (negsuc n) e = record { sfits = ltb-true n (2 ^ 63) e }
+
+fits_not : (z : ℤ) → in_i64 z ≡ false → FitsSigned w64 z → ⊥
+fits_not (pos n) e f = omega (arith, ltb-false n (2 ^ 63) e, f.sfits)
+fits_not (negsuc n) e f = omega (arith, ltb-false n (2 ^ 63) e, f.sfits)
+
+pub given : (z : ℤ) (r : Option ℤ) → SomeIff r (FitsSigned w64 z) z → r ≡ in_range z
 unfolding in_range
-val_pos m h = rw (lt-ltb m (2 ^ 63) h)
+given z r h = go (in_i64 z) (fits z) (fits_not z) r h
+  where
+    go : (t : Bool) → (t ≡ true → FitsSigned w64 z) → (t ≡ false → FitsSigned w64 z → ⊥) → (r : Option ℤ) → SomeIff r (FitsSigned w64 z) z → r ≡ cond t (Some z) None
+    go true f g (Some x) h = ap Some h.1
+    go true f g None h = absurd (h (f refl))
+    go false f g (Some x) h = absurd (g refl h.0)
+    go false f g None h = refl
 
-pub out_pos : (m : ℕ) → 2 ^ 63 ≤ m → in_range (pos m) ≡ OutOfRange
+-- ---- the cap
+
+out_pos : (m : ℕ) → 2 ^ 63 ≤ m → in_range (pos m) ≡ None
 unfolding in_range
 out_pos m h = rw (le-ltb m (2 ^ 63) h)
 
-pub val_neg : (m : ℕ) → m ≤ 2 ^ 63 → in_range (neg_ℤ (pos m)) ≡ Value (neg_ℤ (pos m))
-unfolding in_range
-val_neg zero h = refl
-val_neg (suc m) h = rw (lt-ltb m (2 ^ 63) h)
-
-pub out_neg : (m : ℕ) → 2 ^ 63 < m → in_range (neg_ℤ (pos m)) ≡ OutOfRange
+out_neg : (m : ℕ) → 2 ^ 63 < m → in_range (neg_ℤ (pos m)) ≡ None
 unfolding in_range
 out_neg zero h = absurd (omega arith)
 out_neg (suc m) h = rw (le-ltb m (2 ^ 63) (omega arith))
 
--- ---- the code's negative number, from its bits
-
-minus : (m : ℕ) → m < 2 ^ 63 → (pos 0 -ℤ to_z w64 m) ≡ neg_ℤ (pos m)
-minus m h = ap (λ (z : ℤ). pos 0 -ℤ z) (to_z_pos w64 m h) ∙ +ℤ_idl (neg_ℤ (pos m))
-
-neg_fits : (m : ℕ) → m < 2 ^ 63 → SFits w64 (neg_ℤ (pos m))
-neg_fits zero h = record { sfits = h }
-neg_fits (suc m) h = record { sfits = omega arith }
-
-pub minus_fits : (m : ℕ) → m < 2 ^ 63 → SFits w64 (pos 0 -ℤ to_z w64 m)
-minus_fits m h = rw (minus m h) (neg_fits m h)
-
-pub minus_read : (m : ℕ) → m < 2 ^ 63 → to_z w64 (of_z w64 (pos 0 -ℤ to_z w64 m)) ≡ neg_ℤ (pos m)
-minus_read m h = to_z-of_z w64 (pos 0 -ℤ to_z w64 m) (minus_fits m h) ∙ minus m h
-
--- ---- the cap
-
-out : (t : Bool) (n : ℕ) → 9223372036854775809 ≤ n → in_range (signed t n) ≡ OutOfRange
+out : (t : Bool) (n : ℕ) → 9223372036854775809 ≤ n → in_range (signed t n) ≡ None
 out true n h = out_neg n h
 out false n h = out_pos n (omega arith)
 
@@ -62,9 +56,21 @@ capped t n = go (dec_le n 9223372036854775809)
     go (no h) = out t (min 9223372036854775809 n) (omega arith) ∙ sym (out t n (omega arith))
 
 -- the token s, whose digits stopped at n
-pub stopped : (s : List ℕ) (minus : Bool) (n : ℕ) → is_minus s ≡ minus → n ≡ min 9223372036854775809 (number 0 s) → in_range (signed minus n) ≡ integer_of s
-unfolding integer_of
-stopped s minus n hs hn =
-    ap (λ (k : ℕ). in_range (signed minus k)) hn
-    ∙ capped minus (number 0 s)
-    ∙ ap (λ (t : Bool). in_range (signed t (number 0 s))) (sym hs)
+module _ (s : List ℕ) (n : ℕ) (hn : n ≡ min 9223372036854775809 (number 0 s)) (r : Option ℤ) where
+  stopped : (minus : Bool) → is_minus s ≡ minus → SomeIff r (FitsSigned w64 (signed minus n)) (signed minus n) → r ≡ integer_of s
+  unfolding integer_of
+  stopped minus hs h =
+      given (signed minus n) r h
+      ∙ ap (λ (k : ℕ). in_range (signed minus k)) hn
+      ∙ capped minus (number 0 s)
+      ∙ ap (λ (t : Bool). in_range (signed t (number 0 s))) (sym hs)
+
+  pub minus_stopped : is_minus s ≡ true → SomeIff r (FitsSigned w64 (pos 0 -ℤ pos n)) (pos 0 -ℤ pos n) → r ≡ integer_of s
+  minus_stopped hs h = stopped true hs (rw (+ℤ_idl (neg_ℤ (pos n))) at h)
+
+  pub plain_stopped : is_minus s ≡ false → {E : Type 0} (t : Result ℤ E) → OkIff t (FitsSigned w64 (pos n)) (pos n) → r ≡ result_ok t → r ≡ integer_of s
+  plain_stopped hs t h e = stopped false hs (subst⁻¹ (λ (o : Option ℤ). SomeIff o (FitsSigned w64 (pos n)) (pos n)) e (go t h))
+    where
+      go : {E : Type 0} (t : Result ℤ E) → OkIff t (FitsSigned w64 (pos n)) (pos n) → SomeIff (result_ok t) (FitsSigned w64 (pos n)) (pos n)
+      go (Ok x) h = h
+      go (Err e) h = h

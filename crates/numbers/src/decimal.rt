@@ -12,12 +12,6 @@ enum Scale {
     Over(u64),
 }
 
-#[derive(Clone, Copy)]
-pub enum Decimal {
-    Value(f64),
-    NotAdmitted,
-}
-
 // 10 ^ k, which an f64 holds exactly.
 fn ten(k: u64) -> f64
     requires { k ≤ 22 }
@@ -50,26 +44,17 @@ fn ten(k: u64) -> f64
     }
 }
 
-// m times 10 ^ p, where m is at most 2 ^ 53 and p from -22 to 22.
-fn scaled(m: u64, p: Scale) -> Decimal
+// m times 10 ^ p, or none where m is over 2 ^ 53 or p not from -22 to 22.
+fn scaled(m: u64, p: Scale) -> Option<f64>
     ensures { result ≡ value_of m p }
 {
     if m > 9007199254740992 {
-        return Decimal::NotAdmitted;
+        return None;
     }
     match p {
-        Scale::Times(k) => {
-            if k > 22 {
-                return Decimal::NotAdmitted;
-            }
-            Decimal::Value(m as f64 * ten(k))
-        }
-        Scale::Over(k) => {
-            if k > 22 {
-                return Decimal::NotAdmitted;
-            }
-            Decimal::Value(m as f64 / ten(k))
-        }
+        Scale::Times(k @ 0..=22) => Some(m as f64 * ten(k)),
+        Scale::Over(k @ 0..=22) => Some(m as f64 / ten(k)),
+        _ => None,
     }
 }
 
@@ -110,7 +95,7 @@ fn power(s: &[u8], places: u64) -> Scale
 }
 
 // The value of the Float token s. Its digits and its exponent's may be of any number: m stops at 2 ^ 53 + 1, which is not admitted.
-pub fn float_value(s: &[u8]) -> Decimal
+pub fn float_value(s: &[u8]) -> Option<f64>
     ensures { result ≡ decimal_of s.now }
 {
     let e = find(s, b'e', b'E');

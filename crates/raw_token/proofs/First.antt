@@ -22,7 +22,8 @@ use Rattle.raw_token.specs.Parts.{keywords, ascii_begins, signed_at, number_at, 
 use Rattle.raw_token.proofs.Names.{low_character, ascii-begins, name_nil, name_some, name_run}
 use Rattle.raw_token.proofs.Words.{literals, keywords_words, best_word}
 use Rattle.raw_token.proofs.Steps.{behind_none, run_some, maybe_miss, float_none, float_some}
-use Rattle.raw_token.specs.declared.RawToken.TheVariants.{Found, NoMatch}
+use Rattle.std.specs.Prelude.{Some, None}
+use Rattle.raw_token.specs.Table.{raw_token}
 
 -- whether a match of the pattern can start with the byte
 abbrev pub starts : Pattern → ℕ → Bool
@@ -92,7 +93,7 @@ module _ (s : List ℕ) (at b k : ℕ) (within : at < length s) (is_b : get_or s
   alone_len = rw (cut, eq-eqb b b refl)
 
   -- one byte that starts nothing else
-  pub single : (code : ℕ) → keep table k ≡ (code, literal (b ∷ [])) ∷ [] → token_at_lem s at ≡ Found code (at + 1)
+  pub single : (code : ℕ) → keep table k ≡ (code, literal (b ∷ [])) ∷ [] → token_at_lem s at ≡ Some (raw_token code (at + 1))
   single code e = by_byte _ e ∙ ap (λ (n : ℕ). found at (longer (0, 0) code n)) alone_len
 
   two_len : (second : ℕ) → P.literal (b ∷ second ∷ []) (drop at s) ≡ cond (is_prefix (second ∷ []) (drop (at + 1) s)) 2 0
@@ -104,12 +105,12 @@ module _ (s : List ℕ) (at b k : ℕ) (within : at < length s) (is_b : get_or s
   unfolding pair_at
   double true second two alone e = by_byte _ e ∙ go (is_prefix (second ∷ []) (drop (at + 1) s)) _ _ alone_len (two_len second)
     where
-      go : (t : Bool) (m n : ℕ) → m ≡ 1 → n ≡ cond t 2 0 → found at (longer (longer (0, 0) two n) alone m) ≡ cond t (Found two (at + 2)) (Found alone (at + 1))
+      go : (t : Bool) (m n : ℕ) → m ≡ 1 → n ≡ cond t 2 0 → found at (longer (longer (0, 0) two n) alone m) ≡ cond t (Some (raw_token two (at + 2))) (Some (raw_token alone (at + 1)))
       go true m n e₁ e₂ = rw (e₁, e₂)
       go false m n e₁ e₂ = rw (e₁, e₂)
   double false second two alone e = by_byte _ e ∙ go (is_prefix (second ∷ []) (drop (at + 1) s)) _ _ alone_len (two_len second)
     where
-      go : (t : Bool) (m n : ℕ) → m ≡ 1 → n ≡ cond t 2 0 → found at (longer (longer (0, 0) alone m) two n) ≡ cond t (Found two (at + 2)) (Found alone (at + 1))
+      go : (t : Bool) (m n : ℕ) → m ≡ 1 → n ≡ cond t 2 0 → found at (longer (longer (0, 0) alone m) two n) ≡ cond t (Some (raw_token two (at + 2))) (Some (raw_token alone (at + 1)))
       go true m n e₁ e₂ = rw (e₁, e₂)
       go false m n e₁ e₂ = rw (e₁, e₂)
 
@@ -121,7 +122,7 @@ module _ (s : List ℕ) (at b k : ℕ) (within : at < length s) (is_b : get_or s
       ∙ ap (λ (n : ℕ). found at (longer (0, 0) two n)) (two_len second)
       ∙ go (is_prefix (second ∷ []) (drop (at + 1) s))
     where
-      go : (t : Bool) → found at (longer (0, 0) two (cond t 2 0)) ≡ cond t (Found two (at + 2)) NoMatch
+      go : (t : Bool) → found at (longer (0, 0) two (cond t 2 0)) ≡ cond t (Some (raw_token two (at + 2))) None
       go true = refl
       go false = refl
 
@@ -133,7 +134,7 @@ module _ (s : List ℕ) (at b k : ℕ) (within : at < length s) (is_b : get_or s
       ∙ ap (λ (n : ℕ). found at (longer (longer (0, 0) Int (P.int (drop at s))) op n)) alone_len
       ∙ go (P.int (drop at s))
     where
-      go : (n : ℕ) → found at (longer (longer (0, 0) Int n) op 1) ≡ cond (eqb n 0) (Found op (at + 1)) (Found Int (at + n))
+      go : (n : ℕ) → found at (longer (longer (0, 0) Int n) op 1) ≡ cond (eqb n 0) (Some (raw_token op (at + 1))) (Some (raw_token Int (at + n)))
       go zero = refl
       go (suc n) = rw (lt-ltb 0 (suc n) (omega arith), le-ltb (suc n) 1 (omega arith), ne_eqb (suc n) 0 (omega arith))
 
@@ -143,10 +144,10 @@ module _ (s : List ℕ) (at b k : ℕ) (within : at < length s) (is_b : get_or s
   quoted e = by_byte _ e ∙ only_one at String (P.string (drop at s))
 
   -- what starts no token
-  pub none : keep table k ≡ [] → token_at_lem s at ≡ NoMatch
+  pub none : keep table k ≡ [] → token_at_lem s at ≡ None
   none e = by_byte _ e
 
-number_best : (at n f : ℕ) → (n ≡ 0 → ⊥) → (f ≡ 0) ⊎ (n < f) → found at (longer (longer (0, 0) Int n) Float f) ≡ cond (eqb f 0) (Found Int (at + n)) (Found Float (at + f))
+number_best : (at n f : ℕ) → (n ≡ 0 → ⊥) → (f ≡ 0) ⊎ (n < f) → found at (longer (longer (0, 0) Int n) Float f) ≡ cond (eqb f 0) (Some (raw_token Int (at + n))) (Some (raw_token Float (at + f)))
 number_best at n f hn (inl z) = rw (z, lt-ltb 0 n (omega arith), le-ltb n 0 zero-le, ne_eqb n 0 hn)
 number_best at n f hn (inr h) = rw (lt-ltb 0 n (omega arith), lt-ltb n f h, ne_eqb f 0 (omega arith))
 
@@ -255,7 +256,7 @@ module _ (s : List ℕ) (at : ℕ) (within : at < length s) (high : 128 ≤ get_
   non_ascii = by_byte s at _ 128 within refl non_ascii_alike ((Identifier, name) ∷ []) keep_non_ascii ∙ only_one at Identifier (P.name (drop at s))
 
 -- what starts no token
-pub nothing : (s : List ℕ) (at : ℕ) → at < length s → alike table (get_or s at 0) 0 ≡ true → token_at_lem s at ≡ NoMatch
+pub nothing : (s : List ℕ) (at : ℕ) → at < length s → alike table (get_or s at 0) 0 ≡ true → token_at_lem s at ≡ None
 nothing s at h a = none s at _ 0 h refl a keep_none
 
 -- at the end of the list no pattern matches
@@ -272,6 +273,6 @@ longest_nil : (es : List Entry) (best : ℕ × ℕ) → longest best es [] ≡ b
 longest_nil [] best = refl
 longest_nil (e ∷ es) best = rw (len_nil e.1, longer_none best e.0) (longest_nil es best)
 
-pub past_end : (s : List ℕ) (at : ℕ) → length s ≤ at → token_at_lem s at ≡ NoMatch
+pub past_end : (s : List ℕ) (at : ℕ) → length s ≤ at → token_at_lem s at ≡ None
 unfolding token_at_lem
 past_end s at h = ap (λ (l : List ℕ). found at (longest (0, 0) table l)) (past s at h) ∙ ap (found at) (longest_nil table (0, 0))

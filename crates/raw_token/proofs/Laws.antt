@@ -18,10 +18,11 @@ use Rattle.token.specs.Code.{Int, String, Identifier, Float, Dot, Newline}
 use Rattle.raw_token.specs.Pattern as P
 use Rattle.raw_token.specs.Pattern.{begins_name_lem, is_sign_lem, is_quote}
 use Rattle.raw_token.specs.Table.{Pattern, literal, int, string, name, float, len, Entry, table, longer, longest, token_at_lem}
-use Rattle.raw_token.specs.declared.RawToken.TheVariants.{Found, NoMatch}
+use Rattle.std.specs.Prelude.{Some, None}
+use Rattle.raw_token.specs.Table.{raw_token}
 use Rattle.raw_token.proofs.Names.{name_begins, name_missed}
 use Rattle.raw_token.proofs.First.{starts, miss, single, non_ascii}
-use Rattle.raw_token.proofs.Within.{Best, found_best, token_within}
+use Rattle.raw_token.proofs.Within.{Best, same_token, found_best, token_within}
 
 -- a test holds of each entry
 abbrev pub all : (ℕ → Pattern → Bool) → List Entry → Bool
@@ -58,7 +59,7 @@ first_starts p s at h k = go (starts p (get_or s at 0)) (λ e. ap (len p) (at_co
     go false f = let z = f refl in absurd (omega arith)
 
 -- what one computed test says of every entry holds of every token found
-pub matched : (t : ℕ → Pattern → Bool) → all t table ≡ true → (s : List ℕ) (at code end : ℕ) → token_at_lem s at ≡ Found code end → Matched t s at code end
+pub matched : (t : ℕ → Pattern → Bool) → all t table ≡ true → (s : List ℕ) (at code end : ℕ) → token_at_lem s at ≡ Some (raw_token code end) → Matched t s at code end
 unfolding token_at_lem
 matched t a s at code end e =
     let best = longest (0, 0) table (drop at s) in
@@ -79,7 +80,7 @@ all_coded : all coded table ≡ true
 unfolding coded table
 all_coded = refl
 
-module _ (s : List ℕ) (at code end : ℕ) (e : token_at_lem s at ≡ Found code end) where
+module _ (s : List ℕ) (at code end : ℕ) (e : token_at_lem s at ≡ Some (raw_token code end)) where
   pub token_code : (1 ≤ code) × ((code ≤ Dot) ⊎ (code ≡ Newline))
   unfolding coded
   token_code =
@@ -116,7 +117,7 @@ kind_pattern string c h e = rw (← e)
 kind_pattern name c h e = rw (← e)
 kind_pattern float c h e = rw (← e)
 
-kind_token : (s : List ℕ) (at code end : ℕ) → token_at_lem s at ≡ Found code end → Int ≤ code → code ≤ Float → (end ≡ at + len (pattern_of code) (drop at s)) × (starts (pattern_of code) (get_or s at 0) ≡ true)
+kind_token : (s : List ℕ) (at code end : ℕ) → token_at_lem s at ≡ Some (raw_token code end) → Int ≤ code → code ≤ Float → (end ≡ at + len (pattern_of code) (drop at s)) × (starts (pattern_of code) (get_or s at 0) ≡ true)
 unfolding kinded
 kind_token s at code end e h k =
     let m = matched kinded all_kinded s at code end e in
@@ -140,28 +141,28 @@ string_two (q ∷ l) h = go (is_quote q) h
 
 -- the tokens that are no fixed text: where each ends, and the byte that it starts with
 module _ (s : List ℕ) (at end : ℕ) where
-  pub int_token : token_at_lem s at ≡ Found Int end → (end ≡ at + P.int (drop at s)) × ((is_sign_lem (get_or s at 0) || digit (get_or s at 0)) ≡ true)
+  pub int_token : token_at_lem s at ≡ Some (raw_token Int end) → (end ≡ at + P.int (drop at s)) × ((is_sign_lem (get_or s at 0) || digit (get_or s at 0)) ≡ true)
   int_token e = kind_token s at Int end e (omega arith) (omega arith)
 
-  pub string_token : token_at_lem s at ≡ Found String end → (end ≡ at + P.string (drop at s)) × (is_quote (get_or s at 0) ≡ true)
+  pub string_token : token_at_lem s at ≡ Some (raw_token String end) → (end ≡ at + P.string (drop at s)) × (is_quote (get_or s at 0) ≡ true)
   string_token e = kind_token s at String end e (omega arith) (omega arith)
 
-  name_kind : token_at_lem s at ≡ Found Identifier end → (end ≡ at + P.name (drop at s)) × (starts name (get_or s at 0) ≡ true)
+  name_kind : token_at_lem s at ≡ Some (raw_token Identifier end) → (end ≡ at + P.name (drop at s)) × (starts name (get_or s at 0) ≡ true)
   name_kind e = kind_token s at Identifier end e (omega arith) (omega arith)
 
-  pub name_token : token_at_lem s at ≡ Found Identifier end → (end ≡ at + P.name (drop at s)) × (begins_name_lem (first_code (drop at s)) ≡ true)
+  pub name_token : token_at_lem s at ≡ Some (raw_token Identifier end) → (end ≡ at + P.name (drop at s)) × (begins_name_lem (first_code (drop at s)) ≡ true)
   name_token e =
       let k = (name_kind e).0 in
       let w = (token_within s at Identifier end e).0 in
       (k, (name_begins (drop at s) (omega arith)).1)
 
-  pub name_first : token_at_lem s at ≡ Found Identifier end → starts name (get_or s at 0) ≡ true
+  pub name_first : token_at_lem s at ≡ Some (raw_token Identifier end) → starts name (get_or s at 0) ≡ true
   name_first e = (name_kind e).1
 
-  pub float_token : token_at_lem s at ≡ Found Float end → (end ≡ at + P.float (drop at s)) × (digit (get_or s at 0) ≡ true)
+  pub float_token : token_at_lem s at ≡ Some (raw_token Float end) → (end ≡ at + P.float (drop at s)) × (digit (get_or s at 0) ≡ true)
   float_token e = kind_token s at Float end e (omega arith) (omega arith)
 
-  pub string_quotes : token_at_lem s at ≡ Found String end → at + 2 ≤ end
+  pub string_quotes : token_at_lem s at ≡ Some (raw_token String end) → at + 2 ≤ end
   string_quotes e =
       let t = (string_token e).0 in
       let w = (token_within s at String end e).0 in
@@ -195,18 +196,18 @@ feed_first name b f h = absurd (true≢false (sym f))
 feed_first float b f h = absurd (true≢false (sym f))
 
 -- a line feed is a Newline, and a Newline is one line feed
-pub newline_at : (s : List ℕ) (at : ℕ) → get_or s at 0 ≡ 10 → token_at_lem s at ≡ Found Newline (at + 1)
+pub newline_at : (s : List ℕ) (at : ℕ) → get_or s at 0 ≡ 10 → token_at_lem s at ≡ Some (raw_token Newline (at + 1))
 unfolding table
 newline_at s at e = single s at 10 10 (inside s at (omega arith)) e refl Newline refl
 
-pub newline_token : (s : List ℕ) (at end : ℕ) → token_at_lem s at ≡ Found Newline end → (get_or s at 0 ≡ 10) × (end ≡ at + 1)
+pub newline_token : (s : List ℕ) (at end : ℕ) → token_at_lem s at ≡ Some (raw_token Newline end) → (get_or s at 0 ≡ 10) × (end ≡ at + 1)
 unfolding ended
 newline_token s at end e =
     let m = matched ended all_ended s at Newline end e in
     let b = feed_first m.pattern (get_or s at 0) m.holds m.first in
     let n = newline_at s at b in
-    (b, cc)
+    (b, (same_token Newline Newline end (at + 1) (sym e ∙ n)).1)
 
 -- a character over 127 that begins no name starts no token
-pub other_character : (s : List ℕ) (at : ℕ) → at < length s → 128 ≤ get_or s at 0 → get_or s at 0 < 256 → begins_name_lem (first_code (drop at s)) ≡ false → token_at_lem s at ≡ NoMatch
+pub other_character : (s : List ℕ) (at : ℕ) → at < length s → 128 ≤ get_or s at 0 → get_or s at 0 < 256 → begins_name_lem (first_code (drop at s)) ≡ false → token_at_lem s at ≡ None
 other_character s at h k l b = non_ascii s at h k l ∙ sym (name_missed s at b)

@@ -21,7 +21,8 @@ use Rattle.utf8.proofs.Codes.{low_code}
 use Rattle.xid.proofs.Ascii.{ascii_start, ascii_continue}
 use Rattle.raw_token.specs.Pattern.{begins_name_lem, continues_name, character, at_most, many, name}
 use Rattle.token.specs.Code.{Identifier}
-use Rattle.raw_token.specs.declared.RawToken.TheVariants.{Found, NoMatch}
+use Rattle.std.specs.Prelude.{Some, None}
+use Rattle.raw_token.specs.Table.{raw_token}
 use Rattle.raw_token.specs.Parts.{ascii_begins, ascii_continues_lem, name_at}
 
 -- ---- one character
@@ -81,6 +82,12 @@ module _ (p : ℕ → Bool) (s : List ℕ) (i n : ℕ) (is_n : n ≡ character p
   -- and end before another
   pub many_stop : n ≡ 0 → i + many p (drop i s) ≡ i
   many_stop z = rw (stop (length (drop i s)) p (drop i s) (sym is_n ∙ z)) (omega arith)
+
+pub no_character : (p : ℕ → Bool) (s : List ℕ) (i : ℕ) → sequence_length (drop i s) ≡ 0 → character p (drop i s) ≡ 0
+no_character p s i h = omega (arith, taken_le (p (first_code (drop i s))) (sequence_length (drop i s)) 0 (omega arith))
+
+pub at_end : (p : ℕ → Bool) (s : List ℕ) (i : ℕ) → length s ≤ i → character p (drop i s) ≡ 0
+at_end p s i h = let z = character_le p (drop i s) in omega (arith, length-drop i s)
 
 pub many_end : (p : ℕ → Bool) (s : List ℕ) (i : ℕ) → length s ≤ i → i + many p (drop i s) ≡ i
 many_end p s i h = rw (past s i h) (omega arith)
@@ -189,15 +196,18 @@ name_begins l h = go (begins_name_lem (first_code l)) (sequence_length l) h
 
 -- a name or nothing, by the first character
 module _ (s : List ℕ) (at : ℕ) where
-  pub name_found : (len end : ℕ) → begins_name_lem (first_code (drop at s)) ≡ true → len ≡ sequence_length (drop at s) → end ≡ at + len + many continues_name (drop (at + len) s) → Found Identifier end ≡ name_at s at
+  pub name_found : (len end : ℕ) → begins_name_lem (first_code (drop at s)) ≡ true → len ≡ sequence_length (drop at s) → end ≡ at + len + many continues_name (drop (at + len) s) → Some (raw_token Identifier end) ≡ name_at s at
   unfolding name name_at
   name_found len end b isLen isEnd =
       let e : character begins_name_lem (drop at s) ≡ len = rw b (sym isLen) in
-      rw (e, ne_eqb len 0 some, drop-drop, ne_eqb (len + many continues_name (drop (at + len) s)) 0 (λ z. some (omega arith))) (ap (Found Identifier) (isEnd ∙ omega arith))
+      rw (e, ne_eqb len 0 some, drop-drop, ne_eqb (len + many continues_name (drop (at + len) s)) 0 (λ z. some (omega arith))) (ap (λ (k : ℕ). Some (raw_token Identifier k)) (isEnd ∙ omega arith))
     where
       some : len ≡ 0 → ⊥
       some z = true≢false (sym b ∙ ap begins_name_lem (none_code (drop at s) (sym isLen ∙ z)) ∙ none_begins)
 
-  pub name_missed : begins_name_lem (first_code (drop at s)) ≡ false → NoMatch ≡ name_at s at
+  pub name_missed : begins_name_lem (first_code (drop at s)) ≡ false → None ≡ name_at s at
   unfolding name name_at
   name_missed b = rw b
+
+  pub name_none : sequence_length (drop at s) ≡ 0 → None ≡ name_at s at
+  name_none e = name_missed (ap begins_name_lem (none_code (drop at s) e) ∙ none_begins)

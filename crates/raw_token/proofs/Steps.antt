@@ -11,9 +11,12 @@ use lib.ListN.{length, get_or, drop}
 use lib.Dec.{eqb}
 use lib.Seq.{drop-drop}
 use borrow.Author.Tests.{eq-eqb, ne_eqb}
-use Rattle.source.specs.Bytes.{run, digit, Len}
+use Rattle.source.specs.Bytes.{run, digit}
+use Rattle.std.specs.Prelude.{Option, Some, None, unwrap_or}
 use Rattle.source.proofs.Lists.{at_cons, past, inside, place}
 use Rattle.raw_token.specs.Pattern.{behind, one, seq, maybe, is_prefix, fraction, exponent, float, is_quote, body, string}
+use Rattle.utf8.specs.Table.{some_length}
+use Rattle.raw_token.specs.Parts.{Matches}
 
 pub behind_none : (k n : ℕ) → n ≡ 0 → behind k n ≡ 0
 unfolding behind
@@ -57,9 +60,45 @@ module _ (p : ℕ → Bool) (q : List ℕ → ℕ) (s : List ℕ) (i : ℕ) wher
   maybe_miss h =
       ⊎_elim (λ l. rw (at_cons s i l, h) (behind_zero _)) (λ g. rw (past s i g) (behind_zero _)) (place s i)
 
--- the length of f where its first byte is there and q follows
-pub one_more : (f q : List ℕ → ℕ) (s : List ℕ) (i n r : ℕ) → i < length s → f (drop i s) ≡ behind 1 (q (drop (i + 1) s)) → Len q s (i + 1) n → r ≡ behind 1 n → Len f s i r
-one_more f q s i n r h e l g = record { is = g ∙ ap (behind 1) l.is ∙ sym e; within = omega (arith, behind_le 1 n, g, l.within) }
+-- ---- a length or nothing
+
+length_some : (n m : ℕ) → Some n ≡ some_length m → (n ≡ m) × (m ≡ 0 → ⊥)
+length_some n zero e = absurd (cc)
+length_some n (suc m) e = (cc, λ z. omega arith)
+
+length_none : (m : ℕ) → None ≡ some_length m → m ≡ 0
+length_none zero e = refl
+length_none (suc m) e = absurd (cc)
+
+some_is : (n m : ℕ) → n ≡ m → (n ≡ 0 → ⊥) → Some n ≡ some_length m
+some_is n zero e h = absurd (h e)
+some_is n (suc m) e h = ap Some e
+
+module _ (f : List ℕ → ℕ) (s : List ℕ) (i : ℕ) where
+  pub matches_is : (n : ℕ) → Matches f s i (Some n) → (n ≡ f (drop i s)) × (f (drop i s) ≡ 0 → ⊥)
+  matches_is n m = length_some n (f (drop i s)) m.is
+
+  pub misses_is : Matches f s i None → f (drop i s) ≡ 0
+  misses_is m = length_none (f (drop i s)) m.is
+
+  pub matches_or : (r : Option ℕ) → Matches f s i r → unwrap_or r 0 ≡ f (drop i s)
+  matches_or None m = sym (misses_is m)
+  matches_or (Some n) m = (matches_is n m).0
+
+  pub matches : (n : ℕ) → n ≡ f (drop i s) → (n ≡ 0 → ⊥) → n ≤ length s - i → Matches f s i (Some n)
+  matches n e h w = record { is = some_is n (f (drop i s)) e h; within = w }
+
+  pub misses : f (drop i s) ≡ 0 → Matches f s i None
+  misses e = record { is = rw e; within = zero-le }
+
+  -- where its first byte is there and q follows
+  pub one_more : (q : List ℕ → ℕ) (n : ℕ) → i < length s → f (drop i s) ≡ behind 1 (q (drop (i + 1) s)) → Matches q s (i + 1) (Some n) → Matches f s i (Some (1 + n))
+  one_more q n h e m =
+      let k = length_some n (q (drop (i + 1) s)) m.is in
+      matches (1 + n) (rw k.0 (sym (e ∙ behind_some 1 (q (drop (i + 1) s)) k.1))) (λ z. omega arith) (omega (arith, m.within))
+
+  pub none_more : (q : List ℕ → ℕ) → f (drop i s) ≡ behind 1 (q (drop (i + 1) s)) → Matches q s (i + 1) None → Matches f s i None
+  none_more q e m = misses (e ∙ behind_none 1 (q (drop (i + 1) s)) (length_none (q (drop (i + 1) s)) m.is))
 
 -- a run is not empty where its class has the byte there
 pub run_some : (p : ℕ → Bool) (s : List ℕ) (i : ℕ) → i < length s → p (get_or s i 0) ≡ true → run p (drop i s) ≡ 0 → ⊥
@@ -94,44 +133,29 @@ prefix_miss k s i h = ⊎_elim (λ l. rw (at_cons s i l, ne_eqb (get_or s i 0) k
 
 -- a string's body, at a place
 module _ (q : ℕ) (s : List ℕ) (i : ℕ) where
-  escaped_feed : get_or s i 0 ≡ 10 → body q true (drop i s) ≡ 0
-  escaped_feed e = rw (at_cons s i (inside s i (omega arith)), eq-eqb (get_or s i 0) 10 e)
+  pub body_end : (escaped : Bool) → length s ≤ i → body q escaped (drop i s) ≡ 0
+  body_end escaped h = rw (past s i h)
 
-  escaped_other : (get_or s i 0 ≡ 10 → ⊥) → body q true (drop i s) ≡ behind 1 (body q false (drop (i + 1) s))
-  escaped_other h = ⊎_elim (λ l. rw (at_cons s i l, ne_eqb (get_or s i 0) 10 h)) (λ g. rw (past s i g, past s (i + 1) (omega arith), behind_none 1 0 refl)) (place s i)
+  module _ (within : i < length s) where
+    pub body_quote : get_or s i 0 ≡ q → body q false (drop i s) ≡ 1
+    body_quote e = rw (at_cons s i within, eq-eqb (get_or s i 0) q e)
 
-  pub body_end : length s ≤ i → body q false (drop i s) ≡ 0
-  body_end h = rw (past s i h)
+    pub body_next : (get_or s i 0 ≡ q → ⊥) → body q false (drop i s) ≡ behind 1 (body q (eqb (get_or s i 0) 92) (drop (i + 1) s))
+    body_next h = rw (at_cons s i within, ne_eqb (get_or s i 0) q h)
 
-module _ (q : ℕ) (s : List ℕ) (i : ℕ) (within : i < length s) where
-  pub body_quote : get_or s i 0 ≡ q → body q false (drop i s) ≡ 1
-  body_quote e = rw (at_cons s i within, eq-eqb (get_or s i 0) q e)
+    pub escaped_feed : get_or s i 0 ≡ 10 → body q true (drop i s) ≡ 0
+    escaped_feed e = rw (at_cons s i within, eq-eqb (get_or s i 0) 10 e)
 
-  module _ (other : get_or s i 0 ≡ q → ⊥) where
-    pub body_plain : (get_or s i 0 ≡ 92 → ⊥) → body q false (drop i s) ≡ behind 1 (body q false (drop (i + 1) s))
-    body_plain h = rw (at_cons s i within, ne_eqb (get_or s i 0) q other, ne_eqb (get_or s i 0) 92 h)
+    pub escaped_next : (get_or s i 0 ≡ 10 → ⊥) → body q true (drop i s) ≡ behind 1 (body q false (drop (i + 1) s))
+    escaped_next h = rw (at_cons s i within, ne_eqb (get_or s i 0) 10 h)
 
-    module _ (slash : get_or s i 0 ≡ 92) where
-      escape : body q false (drop i s) ≡ behind 1 (body q true (drop (i + 1) s))
-      escape = rw (at_cons s i within, ne_eqb (get_or s i 0) q other, eq-eqb (get_or s i 0) 92 slash)
-
-      pub body_feed : get_or s (i + 1) 0 ≡ 10 → body q false (drop i s) ≡ 0
-      body_feed e = escape ∙ ap (behind 1) (escaped_feed q s (i + 1) e) ∙ behind_none 1 0 refl
-
-      pub body_escape : (get_or s (i + 1) 0 ≡ 10 → ⊥) → body q false (drop i s) ≡ behind 2 (body q false (drop (i + 2) s))
-      body_escape h = escape ∙ ap (behind 1) (escaped_other q s (i + 1) h) ∙ behind_behind 1 1 (body q false (drop (i + 1 + 1) s)) ∙ ap (λ (k : ℕ). behind 2 (body q false (drop k s))) (add_assoc i 1 1)
-
--- what has been passed grows by k
-pub grow : (x i k at y z : ℕ) → at ≤ i → x ≡ behind (i - at) y → y ≡ behind k z → x ≡ behind (i + k - at) z
-grow x i k at y z h e g = e ∙ ap (behind (i - at)) g ∙ behind_behind (i - at) k z ∙ ap (λ (m : ℕ). behind m z) (omega arith)
+-- what has been passed grows by one
+pub grow : (x i at y z : ℕ) → at ≤ i → x ≡ behind (i - at) y → y ≡ behind 1 z → x ≡ behind (i + 1 - at) z
+grow x i at y z h e g = e ∙ ap (behind (i - at)) g ∙ behind_behind (i - at) 1 z ∙ ap (λ (m : ℕ). behind m z) (omega arith)
 
 -- the closing quote
 pub close : (x i at y : ℕ) → at ≤ i → x ≡ behind (i - at) y → y ≡ 1 → i + 1 - at ≡ x
 close x i at y h e g = let z = e ∙ ap (behind (i - at)) g ∙ behind_some (i - at) 1 (omega arith) in omega arith
-
--- the end without one
-pub open_end : (x k y : ℕ) → x ≡ behind k y → y ≡ 0 → 0 ≡ x
-open_end x k y e g = sym (e ∙ behind_none k y g)
 
 pub string_open : (s : List ℕ) (at : ℕ) → at < length s → is_quote (get_or s at 0) ≡ true → string (drop at s) ≡ behind (at + 1 - at) (body (get_or s at 0) false (drop (at + 1) s))
 string_open s at h t = rw (at_cons s at h, t) (ap (λ (m : ℕ). behind m (body (get_or s at 0) false (drop (at + 1) s))) (omega arith))

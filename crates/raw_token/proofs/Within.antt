@@ -1,6 +1,6 @@
 -- A token has a byte or more, and ends within the list.
 -- Assumes nothing.
-use mathlib.Core.Path.{◌≡◌, refl, sym}
+use mathlib.Core.Path.{◌≡◌, refl, sym, ap}
 use mathlib.Core.Bool.{Bool, true, false, cond, true≢false}
 use mathlib.Core.List.{List, [], ◌∷◌}
 use Prim.Native.Nat.{ℕ, zero, suc, ◌+◌, ◌<◌, ◌≤◌, zero-le, suc-le-suc}
@@ -16,7 +16,9 @@ use Rattle.raw_token.specs.Pattern.{begins_name_lem, continues_name, behind, one
 use Rattle.raw_token.specs.Table.{Pattern, literal, name, int, float, string, len, Entry, table, longer, longest, found, token_at_lem}
 use Rattle.raw_token.proofs.Steps.{behind_le}
 use Rattle.raw_token.proofs.Names.{character_le, many_le}
-use Rattle.raw_token.specs.declared.RawToken.TheVariants.{Found, NoMatch}
+use Rattle.std.specs.Prelude.{Some, None}
+use Rattle.raw_token.specs.Table.{raw_token}
+use Rattle.raw_token.specs.declared.RawToken.{RawToken}
 
 -- a match is no longer than the list
 abbrev pub Bounded : (List ℕ → ℕ) → Type 0
@@ -111,24 +113,29 @@ longest_le (e ∷ es) best l h = longest_le es (longer best e.0 (len e.1 l)) l (
     go true k = k
     go false k = h
 
+-- a token is its code and its end
+pub same_token : (c d m n : ℕ) → Some (raw_token c m) ≡ Some (raw_token d n) → (c ≡ d) × (m ≡ n)
+same_token c d m n e =
+    let r : raw_token c m ≡ raw_token d n = cc in
+    (ap (λ (t : RawToken). t.code) r, ap (λ (t : RawToken). t.end) r)
+
 -- what a found token says of the best match
 pub record Best (at : ℕ) (best : ℕ × ℕ) (code end : ℕ) : Type 0 where
   pub some : 0 < best.1
   pub code_is : best.0 ≡ code
   pub end_is : at + best.1 ≡ end
 
-pub found_best : (at : ℕ) (best : ℕ × ℕ) (code end : ℕ) → found at best ≡ Found code end → Best at best code end
+pub found_best : (at : ℕ) (best : ℕ × ℕ) (code end : ℕ) → found at best ≡ Some (raw_token code end) → Best at best code end
 found_best at best code end e = go best.1 e refl
   where
-    go : (m : ℕ) → cond (eqb m 0) NoMatch (Found best.0 (at + m)) ≡ Found code end → best.1 ≡ m → Best at best code end
+    go : (m : ℕ) → cond (eqb m 0) None (Some (raw_token best.0 (at + m))) ≡ Some (raw_token code end) → best.1 ≡ m → Best at best code end
     go zero q h = let z : ◌≡◌ {A = ℕ} 0 1 = cc in absurd (omega arith)
     go (suc m) q h =
-        let r : Found best.0 (at + suc m) ≡ Found code end = rw (ne_eqb (suc m) 0 (omega arith)) at q in
-        let i : at + suc m ≡ end = cc in
-        record { some = omega arith; code_is = cc; end_is = omega arith }
+        let r = same_token best.0 code (at + suc m) end (rw (ne_eqb (suc m) 0 (omega arith)) at q) in
+        record { some = omega arith; code_is = r.0; end_is = omega (arith, r.1) }
 
 -- a token has a byte or more, and ends within the source
-pub token_within : (s : List ℕ) (at code end : ℕ) → token_at_lem s at ≡ Found code end → (at < end) × (end ≤ length s)
+pub token_within : (s : List ℕ) (at code end : ℕ) → token_at_lem s at ≡ Some (raw_token code end) → (at < end) × (end ≤ length s)
 unfolding token_at_lem
 token_within s at code end e =
     let b = found_best at (longest (0, 0) table (drop at s)) code end e in

@@ -20,7 +20,8 @@ use Rattle.raw_token.specs.Pattern.{continues_name, is_prefix, literal, many, na
 use Rattle.raw_token.specs.Table.{Entry, longer, longest, table}
 use Rattle.raw_token.specs.Table as T
 use Rattle.raw_token.specs.Parts.{keywords, pack, code_of, word_code, ascii_begins, ascii_continues_lem, word_at}
-use Rattle.raw_token.specs.declared.RawToken.TheVariants.{Found}
+use Rattle.std.specs.Prelude.{Some}
+use Rattle.raw_token.specs.Table.{raw_token}
 use Rattle.raw_token.proofs.Names.{ascii_low, name_parts}
 
 abbrev pub all_in : (ℕ → Bool) → List ℕ → Bool
@@ -181,9 +182,6 @@ pack_next l k h = ap (pack 0) (take-suc l k 0 h) ∙ pack_end 0 (take k l) (get_
 abbrev pub Packed : List ℕ → ℕ → ℕ → ℕ → Type 0
 Packed s at i n = n ≡ pack 0 (take (i - at) (drop at s)) % 2 ^ 64
 
-pub packed_none : (s : List ℕ) (at : ℕ) → Packed s at at 0
-packed_none s at = let e : at - at ≡ 0 = omega arith in rw e
-
 -- what is above seven bytes goes before the eighth comes
 push : (m n b : ℕ) → b < 256 → n ≡ m % 2 ^ 64 → n % 2 ^ 56 * 256 + b ≡ (m * 256 + b) % 2 ^ 64
 push m n b h e = omega arith
@@ -211,7 +209,7 @@ module _ (s : List ℕ) (at end stop : ℕ) (within : at < length s) (h : ascii_
   ended : stop - at ≡ name (drop at s)
   ended = omega (arith, ends)
 
-  pub short_word : (m code : ℕ) → (eqb stop end && leb (stop - at) 8) ≡ true → m ≡ pack 0 (take (end - at) (drop at s)) % 2 ^ 64 → code ≡ code_of keywords m → Found code stop ≡ word_at s at
+  pub short_word : (m code : ℕ) → (eqb stop end && leb (stop - at) 8) ≡ true → m ≡ pack 0 (take (end - at) (drop at s)) % 2 ^ 64 → code ≡ code_of keywords m → Some (raw_token code stop) ≡ word_at s at
   unfolding word_at
   short_word m code t isM is_code =
       let n = run ascii_continues_lem (drop at s) in
@@ -224,11 +222,11 @@ module _ (s : List ℕ) (at end stop : ℕ) (within : at < length s) (h : ascii_
       let fits = eight (take n (drop at s)) (omega (arith, length-take-le n (drop at s) l)) a in
       let number : pack 0 (take n (drop at s)) ≡ m = sym (mod-eq_of_lt fits) ∙ ap (λ (k : ℕ). pack 0 (take k (drop at s)) % 2 ^ 64) (sym e) ∙ sym isM in
       let c : word_code keywords (drop at s) n ≡ code = code_eq keywords (drop at s) n l keywords_words a ∙ ap (code_of keywords) number ∙ sym is_code in
-      rw (is_n, c) (ap (Found code) (omega (arith, ends, is_n)))
+      rw (is_n, c) (ap (λ (k : ℕ). Some (raw_token code k)) (omega (arith, ends, is_n)))
 
-  pub other_word : (eqb stop end && leb (stop - at) 8) ≡ false → Found Identifier stop ≡ word_at s at
+  pub other_word : (eqb stop end && leb (stop - at) 8) ≡ false → Some (raw_token Identifier stop) ≡ word_at s at
   unfolding word_at
-  other_word f = rw (code_other keywords (drop at s) (name (drop at s)) keywords_words (go (ℕ_discrete stop end) (dec_lt 8 (stop - at)))) (ap (Found Identifier) ends)
+  other_word f = rw (code_other keywords (drop at s) (name (drop at s)) keywords_words (go (ℕ_discrete stop end) (dec_lt 8 (stop - at)))) (ap (λ (k : ℕ). Some (raw_token Identifier k)) ends)
     where
       go : Dec (stop ≡ end) → Dec (8 < stop - at) → (8 < name (drop at s)) ⊎ (run ascii_continues_lem (drop at s) < name (drop at s))
       go d (yes h) = inl (rw ended at h)

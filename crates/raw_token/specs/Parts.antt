@@ -1,14 +1,14 @@
 -- What the functions behind the first byte find. Only contracts of private functions and laws cite these definitions.
 -- Assumes nothing.
-use Rattle.std.specs.Prelude.{ℕ, ◌+◌, ◌-◌, ◌*◌, ◌%◌, ◌^◌, ◌≡◌, Bool, cond, ◌&&◌, ◌||◌, List, [], ◌∷◌, eqb, length, take, drop}
+use Rattle.std.specs.Prelude.{ℕ, ◌+◌, ◌-◌, ◌*◌, ◌%◌, ◌^◌, ◌≡◌, Bool, cond, ◌&&◌, ◌||◌, List, [], ◌∷◌, Option, Some, None, unwrap_or, ◌≤◌, eqb, length, take, drop}
 use Rattle.source.specs.Bytes.{run, digit, letter}
+use Rattle.utf8.specs.Table.{some_length}
 use Rattle.token.specs.Code.{Int, String, Identifier, Float}
 use Rattle.raw_token.specs.Pattern as P
 use Rattle.raw_token.specs.Pattern.{is_prefix}
-use Rattle.raw_token.specs.Table.{Pattern, literal, int, string, name, float, Entry, table, found}
+use Rattle.raw_token.specs.Table.{Pattern, literal, int, string, name, float, Entry, table, raw_token, found}
 use Rattle.raw_token.specs.declared.word.Spelling.{Spelling}
 use Rattle.raw_token.specs.declared.RawToken.{RawToken}
-use Rattle.raw_token.specs.declared.RawToken.TheVariants.{Found, NoMatch}
 
 -- the bytes of a text, none for another pattern
 abbrev pub text_of : Pattern → List ℕ
@@ -26,6 +26,11 @@ texts (e ∷ es) = (e.0, text_of e.1) ∷ texts es
 -- the table's first 19 entries, from If to False
 unfoldable pub keywords : List (ℕ × List ℕ)
 keywords = texts (take 19 table)
+
+-- r is the length of what p matches at the place `at` of s, and nothing where that is 0: no pattern matches the empty list of bytes
+pub record Matches (p : List ℕ → ℕ) (s : List ℕ) (at : ℕ) (r : Option ℕ) : Type 0 where
+  pub is : r ≡ some_length (p (drop at s))
+  pub within : unwrap_or r 0 ≤ length s - at
 
 -- bytes as the digits of a number to the base 256, the first the highest, behind the number n
 abbrev pub pack : ℕ → List ℕ → ℕ
@@ -55,30 +60,30 @@ pub record Spelt (s : List ℕ) (at : ℕ) (r : Spelling) : Type 0 where
   pub number_is : r.number ≡ pack 0 (take (r.end - at) (drop at s)) % 2 ^ 64
 
 -- a keyword or a name, where an ASCII character begins it
-unfoldable pub word_at : List ℕ → ℕ → RawToken
-word_at s at = Found (word_code keywords (drop at s) (P.name (drop at s))) (at + P.name (drop at s))
+unfoldable pub word_at : List ℕ → ℕ → Option RawToken
+word_at s at = Some (raw_token (word_code keywords (drop at s) (P.name (drop at s))) (at + P.name (drop at s)))
 
 -- a name or nothing
-unfoldable pub name_at : List ℕ → ℕ → RawToken
+unfoldable pub name_at : List ℕ → ℕ → Option RawToken
 name_at s at = found at (Identifier, P.name (drop at s))
 
 -- a sign and digits, or the sign alone, with the code op
-unfoldable pub signed_at : List ℕ → ℕ → ℕ → RawToken
-signed_at s at op = cond (eqb (P.int (drop at s)) 0) (Found op (at + 1)) (Found Int (at + P.int (drop at s)))
+unfoldable pub signed_at : List ℕ → ℕ → ℕ → Option RawToken
+signed_at s at op = cond (eqb (P.int (drop at s)) 0) (Some (raw_token op (at + 1))) (Some (raw_token Int (at + P.int (drop at s))))
 
 -- a float, or else digits
-unfoldable pub number_at : List ℕ → ℕ → RawToken
+unfoldable pub number_at : List ℕ → ℕ → Option RawToken
 number_at s at =
-    cond (eqb (P.float (drop at s)) 0) (Found Int (at + run digit (drop at s))) (Found Float (at + P.float (drop at s)))
+    cond (eqb (P.float (drop at s)) 0) (Some (raw_token Int (at + run digit (drop at s)))) (Some (raw_token Float (at + P.float (drop at s))))
 
-unfoldable pub string_at : List ℕ → ℕ → RawToken
+unfoldable pub string_at : List ℕ → ℕ → Option RawToken
 string_at s at = found at (String, P.string (drop at s))
 
 -- two bytes where `second` is next, or the first alone
-unfoldable pub pair_at : List ℕ → ℕ → ℕ → ℕ → ℕ → RawToken
+unfoldable pub pair_at : List ℕ → ℕ → ℕ → ℕ → ℕ → Option RawToken
 pair_at s at second two alone =
-    cond (is_prefix (second ∷ []) (drop (at + 1) s)) (Found two (at + 2)) (Found alone (at + 1))
+    cond (is_prefix (second ∷ []) (drop (at + 1) s)) (Some (raw_token two (at + 2))) (Some (raw_token alone (at + 1)))
 
 -- two bytes where `second` is next, or nothing
-unfoldable pub only_at : List ℕ → ℕ → ℕ → ℕ → RawToken
-only_at s at second two = cond (is_prefix (second ∷ []) (drop (at + 1) s)) (Found two (at + 2)) NoMatch
+unfoldable pub only_at : List ℕ → ℕ → ℕ → ℕ → Option RawToken
+only_at s at second two = cond (is_prefix (second ∷ []) (drop (at + 1) s)) (Some (raw_token two (at + 2))) None

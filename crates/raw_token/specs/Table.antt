@@ -1,15 +1,15 @@
 -- The table of raw tokens, and the token at a place: "The longest match wins; at equal length a keyword beats a name" (01, Raw tokens).
 -- Assumes nothing.
-use Rattle.std.specs.Prelude.{ℕ, ◌+◌, cond, List, [], ◌∷◌, ltb, eqb, drop}
+use Rattle.std.specs.Prelude.{ℕ, ◌+◌, cond, List, [], ◌∷◌, Option, Some, None, ltb, eqb, drop}
 use Prim.Native.String as S
 use Rattle.source.specs.Text.{bytes}
 use Rattle.token.specs.Code.{If, Elif, Else, While, For, In, Def, Return, And, Or, Not, Class, Break, Continue, Pass, Lambda}
-use Rattle.token.specs.Code.{None, Bool, Int, String, Identifier, Float}
+use Rattle.token.specs.Code as Code
+use Rattle.token.specs.Code.{Bool, Int, String, Identifier, Float}
 use Rattle.token.specs.Code.{Plus, Minus, Star, SlashSlash, Slash, Percent, EqualEqual, NotEqual, Less, LessEqual, Greater, GreaterEqual, Equal}
 use Rattle.token.specs.Code.{LParen, RParen, LBracket, RBracket, LBrace, RBrace, Colon, Comma, Semicolon, Dot, Newline}
 use Rattle.raw_token.specs.Pattern as P
 use Rattle.raw_token.specs.declared.RawToken.{RawToken}
-use Rattle.raw_token.specs.declared.RawToken.TheVariants.{Found, NoMatch}
 
 pub data Pattern : Type 0 where
   literal : List ℕ → Pattern
@@ -51,7 +51,7 @@ table =
     ∷ text Continue "continue"
     ∷ text Pass "pass"
     ∷ text Lambda "lambda"
-    ∷ text None "None"
+    ∷ text Code.None "None"
     ∷ text Bool "True"
     ∷ text Bool "False"
     ∷ (Int, int)
@@ -93,10 +93,13 @@ abbrev pub longest : ℕ × ℕ → List Entry → List ℕ → ℕ × ℕ
 longest best [] l = best
 longest best (e ∷ es) l = longest (longer best e.0 (len e.1 l)) es l
 
--- the token with the code and the length of `best` at the place `at`
-abbrev pub found : ℕ → ℕ × ℕ → RawToken
-found at best = cond (eqb best.1 0) NoMatch (Found best.0 (at + best.1))
+abbrev pub raw_token : ℕ → ℕ → RawToken
+raw_token code end = record { code = code; end = end }
+
+-- the token with the code and the length of `best` at the place `at`, and none where nothing matches
+abbrev pub found : ℕ → ℕ × ℕ → Option RawToken
+found at best = cond (eqb best.1 0) None (Some (raw_token best.0 (at + best.1)))
 
 -- the token that starts at the place `at` of the source s
-unfoldable pub token_at_lem : List ℕ → ℕ → RawToken
+unfoldable pub token_at_lem : List ℕ → ℕ → Option RawToken
 token_at_lem s at = found at (longest (0, 0) table (drop at s))

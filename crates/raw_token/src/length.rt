@@ -1,73 +1,79 @@
-// The lengths of the patterns of specs/Pattern.antt at a place, 0 where one does not match.
-ghost use Rattle.std.specs.Prelude.{◌≡◌, true, ◌+◌, ◌^◌, ◌<◌, length, get_or};
-ghost use Rattle.source.specs.Bytes.{Len};
-ghost use Rattle.raw_token.specs.Pattern as Pattern;
-ghost use Rattle.raw_token.specs.Pattern.{fraction, exponent, int, string, is_quote};
+// The lengths of the patterns of specs/Pattern.antt at a place, and nothing where one does not match.
+ghost use Rattle.std.specs.Prelude.{◌≡◌, true, ◌<◌, length, get_or};
+ghost use Rattle.source.specs.Bytes.{run, digit};
+ghost use Rattle.raw_token.specs.Pattern.{fraction, exponent, int, string, is_quote, is_sign_lem, is_e};
+ghost use Rattle.raw_token.specs.Parts.{Matches};
 
-// k and n more, and 0 where n is 0.
-fn behind(k: usize, n: usize) -> usize
-    requires { k + n < 2 ^ 64 }
-    ensures { result ≡ Pattern.behind k n }
+// The length of digits, one or more.
+fn digits(s: &[u8], at: usize) -> Option<usize>
+    ensures { Matches (run digit) s.now at result }
 {
-    if n == 0 { 0 } else { k + n }
+    let n = source::digits(s, at);
+    (0 < n).then_some(n)
 }
 
 // The length of a dot and digits.
-pub(crate) fn fraction_len(s: &[u8], at: usize) -> usize
-    ensures { Len fraction s.now at result }
+pub(crate) fn fraction_len(s: &[u8], at: usize) -> Option<usize>
+    ensures { Matches fraction s.now at result }
 {
-    if source::byte(s, at) == b'.' {
-        behind(1, source::digits(s, at + 1))
-    } else {
-        0
+    if source::byte(s, at) != b'.' {
+        return None;
     }
+    Some(1 + digits(s, at + 1)?)
+}
+
+fn is_sign(b: u8) -> bool
+    ensures { result ≡ is_sign_lem b }
+{
+    matches!(b, b'+' | b'-')
+}
+
+fn is_letter_e(b: u8) -> bool
+    ensures { result ≡ is_e b }
+{
+    matches!(b, b'e' | b'E')
 }
 
 // The length of an optional sign and digits.
-pub(crate) fn int_len(s: &[u8], at: usize) -> usize
-    ensures { Len int s.now at result }
+pub(crate) fn int_len(s: &[u8], at: usize) -> Option<usize>
+    ensures { Matches int s.now at result }
 {
-    let b = source::byte(s, at);
-    if (b == b'+') | (b == b'-') {
-        behind(1, source::digits(s, at + 1))
-    } else {
-        source::digits(s, at)
+    if !is_sign(source::byte(s, at)) {
+        return digits(s, at);
     }
+    Some(1 + digits(s, at + 1)?)
 }
 
 // The length of an exponent: e or E, an optional sign, digits.
-pub(crate) fn exponent_len(s: &[u8], at: usize) -> usize
-    ensures { Len exponent s.now at result }
+pub(crate) fn exponent_len(s: &[u8], at: usize) -> Option<usize>
+    ensures { Matches exponent s.now at result }
 {
-    let b = source::byte(s, at);
-    if (b == b'e') | (b == b'E') {
-        behind(1, int_len(s, at + 1))
-    } else {
-        0
+    if !is_letter_e(source::byte(s, at)) {
+        return None;
     }
+    Some(1 + int_len(s, at + 1)?)
 }
 
 // The length of a string, which starts with a quote.
-pub(crate) fn string_len(s: &[u8], at: usize) -> usize
+pub(crate) fn string_len(s: &[u8], at: usize) -> Option<usize>
     requires { (at < length s.now) × (is_quote (get_or s.now at 0) ≡ true) }
-    ensures { Len string s.now at result }
+    ensures { Matches string s.now at result }
 {
-    let q = s[at];
-    let mut i = at + 1;
-    while i < s.len() {
+    let quote = s[at];
+    // whether a backslash stands before the byte
+    let mut escaped = false;
+    for i in at + 1..s.len() {
         let b = s[i];
-        if b == q {
-            return i + 1 - at;
-        }
-        if b == b'\\' {
-            let x = source::byte(s, i + 1);
-            if x == b'\n' {
-                return 0;
+        if escaped {
+            if b == b'\n' {
+                return None;
             }
-            i += 2;
+            escaped = false;
+        } else if b == quote {
+            return Some(i + 1 - at);
         } else {
-            i += 1;
+            escaped = b == b'\\';
         }
     }
-    0
+    None
 }

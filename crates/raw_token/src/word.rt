@@ -1,9 +1,8 @@
 // Keywords and names. Their ASCII characters are told by their bytes, in one pass that makes a keyword's number as well; only a byte over 127 is decoded and
 // looked up.
 ghost use Rattle.std.specs.Prelude.{◌≡◌, true, false, ◌+◌, ◌≤◌, ◌<◌, length, get_or, drop};
-ghost use Rattle.source.specs.Bytes.{Len};
 ghost use Rattle.raw_token.specs.Pattern.{begins_name_lem, continues_name, character, many};
-ghost use Rattle.raw_token.specs.Parts.{keywords, code_of, ascii_begins, ascii_continues_lem, Spelt, word_at, name_at};
+ghost use Rattle.raw_token.specs.Parts.{Matches, keywords, code_of, ascii_begins, ascii_continues_lem, Spelt, word_at, name_at};
 
 use crate::RawToken;
 
@@ -14,67 +13,50 @@ pub(crate) struct Spelling {
     pub number: u64,
 }
 
-fn wide(b: u8) -> u64
-    ensures { result ≡ b }
-{
-    b as u64
-}
-
-// Whether an ASCII character continues a name: a letter, an underscore or a digit. Small letters, the most frequent, are asked first.
+// Whether an ASCII character continues a name: a letter, an underscore or a digit.
 fn ascii_continues(b: u8) -> bool
     ensures { result ≡ ascii_continues_lem b }
 {
-    if (b'a' <= b) & (b <= b'z') {
-        true
-    } else {
-        ((b'A' <= b) & (b <= b'Z')) | (b == b'_') | source::is_digit(b)
-    }
+    matches!(b, b'a'..=b'z' | b'A'..=b'Z' | b'_' | b'0'..=b'9')
 }
 
 // The ASCII characters from `at` on that continue a name.
 fn ascii_run(s: &[u8], at: usize) -> Spelling
     ensures { Spelt s.now at result }
 {
-    let mut i = at;
-    let mut number: u64 = 0;
-    while i < s.len() {
-        let b = s[i];
-        if ascii_continues(b) {
-            number = number % 0x100000000000000 * 256 + wide(b);
-            i += 1;
-        } else {
-            return Spelling { end: i, number };
+    let mut number = 0;
+    for end in at..s.len() {
+        let b = s[end];
+        if !ascii_continues(b) {
+            return Spelling { end, number };
         }
+        number = number % 0x100000000000000 * 256 + u64::from(b);
     }
-    Spelling { end: i, number }
+    let end = at.max(s.len());
+    Spelling { end, number }
 }
 
-// The length of the character at i where it continues a name, and 0 where it does not.
-fn continuation(s: &[u8], i: usize) -> usize
-    requires { i < length s.now }
-    ensures { Len (character continues_name) s.now i result }
+// The length of the character at i where it continues a name.
+fn continuation(s: &[u8], i: usize) -> Option<usize>
+    ensures { Matches (character continues_name) s.now i result }
 {
-    let b = s[i];
+    let b = *s.get(i)?;
     if ascii_continues(b) {
-        return 1;
+        return Some(1);
     }
     if b < 0x80 {
-        return 0;
+        return None;
     }
-    let c = utf8::character::decode(s, i);
-    if xid::is_continue(c.code) { c.len } else { 0 }
+    let c = utf8::character::decode(s, i)?;
+    xid::is_continue(c.code).then_some(c.len)
 }
 
-// Where the characters that continue a name end, from `at` on.
+// Where the characters that continue a name end, from `at` on. A character has one to four bytes, so no `for` goes over them.
 fn name_end(s: &[u8], at: usize) -> usize
     ensures { result ≡ at + many continues_name (drop at s.now) }
 {
     let mut i = at;
-    while i < s.len() {
-        let n = continuation(s, i);
-        if n == 0 {
-            return i;
-        }
+    while let Some(n) = continuation(s, i) {
         i += n;
     }
     i
@@ -92,7 +74,8 @@ fn non_ascii_end(s: &[u8], at: usize) -> usize
     }
 }
 
-// The code of the keyword with the number n, or a name's. Two digits each, the number is the keyword's letters.
+// The code of the keyword with the number n, or a name's: one match, as 01 asks. Two digits each, the number is the keyword's letters.
+#[tactic(auto, unfolding(crate::specs::Parts::keywords, crate::specs::Table::table))]
 fn keyword(n: u64) -> u32
     ensures { result ≡ code_of keywords n }
 {
@@ -121,23 +104,18 @@ fn keyword(n: u64) -> u32
 }
 
 // What an ASCII character begins as a name: a keyword or a name. A keyword is ASCII alone, and of at most 8 bytes.
-pub(crate) fn word(s: &[u8], at: usize) -> RawToken
+pub(crate) fn word(s: &[u8], at: usize) -> Option<RawToken>
     requires { (at < length s.now) × (ascii_begins (get_or s.now at 0) ≡ true) }
     ensures { result ≡ word_at s.now at }
 {
-    let l = ascii_run(s, at);
-    let end = non_ascii_end(s, l.end);
-    if (end == l.end) & (end - at <= 8) {
-        RawToken::Found {
-            code: keyword(l.number),
-            end,
-        }
+    let letters = ascii_run(s, at);
+    let end = non_ascii_end(s, letters.end);
+    let code = if (end == letters.end) & (end - at <= 8) {
+        keyword(letters.number)
     } else {
-        RawToken::Found {
-            code: token::IDENTIFIER,
-            end,
-        }
-    }
+        token::IDENTIFIER
+    };
+    Some(RawToken { code, end })
 }
 
 // Whether a character begins a name: one of XID_Start or the underscore.
@@ -148,17 +126,16 @@ fn begins_name(c: u32) -> bool
 }
 
 // The name at `at`, or nothing where the character there begins none.
-pub(crate) fn name(s: &[u8], at: usize) -> RawToken
+pub(crate) fn name(s: &[u8], at: usize) -> Option<RawToken>
     requires { at < length s.now }
     ensures { result ≡ name_at s.now at }
 {
-    let c = utf8::character::decode(s, at);
-    if begins_name(c.code) {
-        RawToken::Found {
-            code: token::IDENTIFIER,
-            end: name_end(s, at + c.len),
-        }
-    } else {
-        RawToken::NoMatch
+    let c = utf8::character::decode(s, at)?;
+    if !begins_name(c.code) {
+        return None;
     }
+    Some(RawToken {
+        code: token::IDENTIFIER,
+        end: name_end(s, at + c.len),
+    })
 }

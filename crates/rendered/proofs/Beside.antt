@@ -9,6 +9,7 @@ use lib.Dec.{eqb, leb}
 use lib.ListN.{length, get_or, drop}
 use lib.Seq.{get_or-take, get_or-drop}
 use borrow.Author.Tests.{eqb-true, leb-true, le-leb, lt-leb, not-true}
+use Rattle.std.specs.Prelude.{Some}
 use Rattle.source.specs.Bytes.{between, digit, letter, part}
 use Rattle.source.proofs.Bools.{and_left, and_right, and_false, or_either, or_left, or_right}
 use Rattle.source.proofs.Ranges.{at_each}
@@ -16,8 +17,7 @@ use Rattle.token.specs.Code as Code
 use Rattle.raw_token.specs.Pattern as P
 use Rattle.raw_token.specs.Pattern.{is_sign_lem, is_dot, is_quote, behind}
 use Rattle.raw_token.specs.Parts.{ascii_begins}
-use Rattle.raw_token.specs.Table.{name, table, token_at_lem}
-use Rattle.raw_token.specs.declared.RawToken.TheVariants.{Found}
+use Rattle.raw_token.specs.Table.{raw_token, name, table, token_at_lem}
 use Rattle.raw_token.proofs.First.{starts}
 use Rattle.raw_token.proofs.Laws.{name_first}
 use Rattle.raw_token.proofs.Within.{token_within}
@@ -112,7 +112,7 @@ dot_apart [] r e = absurd (true≢false (sym e))
 dot_apart (b ∷ w) r e = ap (λ (l : List ℕ). apart (l ++ (b ∷ (w ++ r)))) dot_is ∙ apart_dot b (w ++ r) (no_digit b e)
 
 -- as a name that was read begins
-pub name_starts : (s : List ℕ) (start end : ℕ) → token_at_lem s start ≡ Found Code.Identifier end → starts name (get_or (part s start end) 0 0) ≡ true
+pub name_starts : (s : List ℕ) (start end : ℕ) → token_at_lem s start ≡ Some (raw_token Code.Identifier end) → starts name (get_or (part s start end) 0 0) ≡ true
 name_starts s start end e =
     let w = token_within s start Code.Identifier end e in
     let z : start + 0 ≡ start = omega arith in

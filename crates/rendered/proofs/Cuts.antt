@@ -10,10 +10,10 @@ use lib.Dec.{ltb}
 use lib.ListN.{length, take, drop, length-drop, length-take, take-append-drop}
 use lib.Seq.{take-take, length-take-le}
 use borrow.Author.Tests.{ne_eqb, ltb-true, ltb-false}
+use Rattle.std.specs.Prelude.{Some}
 use Rattle.source.specs.Bytes.{part}
 use Rattle.source.proofs.Bools.{and_left, and_right}
-use Rattle.raw_token.specs.Table.{Pattern, len, Entry, table, longer, longest, found, token_at_lem}
-use Rattle.raw_token.specs.declared.RawToken.TheVariants.{Found}
+use Rattle.raw_token.specs.Table.{raw_token, Pattern, len, Entry, table, longer, longest, found, token_at_lem}
 use Rattle.raw_token.proofs.Laws.{all}
 use Rattle.raw_token.proofs.Within.{found_best, token_within}
 use Rattle.lexical.specs.Matches.{Matches}
@@ -70,7 +70,7 @@ longest_cuts (e ∷ es) f best l j h =
     rw (len_cuts e.1 (and_left (filled e.1) (all (λ c p. filled p) es) f) l j k) (longest_cuts es (and_right (filled e.1) (all (λ c p. filled p) es) f) next l j h)
 
 -- a token's bytes alone are that token
-pub alone : (s : List ℕ) (at code end : ℕ) → token_at_lem s at ≡ Found code end → Lexeme code (part s at end)
+pub alone : (s : List ℕ) (at code end : ℕ) → token_at_lem s at ≡ Some (raw_token code end) → Lexeme code (part s at end)
 unfolding token_at_lem
 alone s at code end e =
     let best = longest (0, 0) table (drop at s) in
@@ -78,4 +78,4 @@ alone s at code end e =
     let w = token_within s at code end e in
     let n : best.1 ≡ end - at = omega (arith, b.end_is) in
     ap (found 0) (longest_cuts table all_filled (0, 0) (drop at s) (end - at) (omega arith))
-    ∙ rw (n, ne_eqb (end - at) 0 (omega arith), b.code_is, length-take-le (end - at) (drop at s) (omega (arith, length-drop at s))) (ap (Found code) (omega arith))
+    ∙ rw (n, ne_eqb (end - at) 0 (omega arith), b.code_is, length-take-le (end - at) (drop at s) (omega (arith, length-drop at s))) (ap (λ (k : ℕ). Some (raw_token code k)) (omega arith))

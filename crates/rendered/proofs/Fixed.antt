@@ -1,6 +1,6 @@
 -- Fixed texts and truth values are lexemes.
 -- Assumes nothing.
-use mathlib.Core.Path.{◌≡◌, refl, sym, ap}
+use mathlib.Core.Path.{◌≡◌, ◌∙◌, refl, sym, ap}
 use mathlib.Core.Bool.{Bool, true, false, not, ◌&&◌, ◌||◌, true≢false}
 use mathlib.Core.List.{List, [], ◌∷◌}
 use Prim.Native.Nat.{ℕ, ◌<◌, zero-le}
@@ -8,6 +8,7 @@ use native.Mathlib.Omega.{arith}
 use lib.Dec.{eqb, leb}
 use lib.ListN.{length}
 use borrow.Author.Tests.{eqb-true, leb-true}
+use Rattle.std.specs.Prelude.{Some, Option, None}
 use Rattle.source.specs.Bytes.{between}
 use Rattle.source.proofs.Bools.{and_left, and_right, or_either, or_rest}
 use Rattle.source.proofs.Ranges.{at_each}
@@ -17,31 +18,29 @@ use Rattle.xid.specs.Ranges.{holds}
 use Rattle.xid.specs.Tables.{xid_start, xid_continue}
 use Rattle.token.specs.Code as Code
 use Rattle.raw_token.specs.Pattern as P
-use Rattle.raw_token.specs.Table.{table, token_at_lem}
+use Rattle.raw_token.specs.Table.{raw_token, table, token_at_lem}
 use Rattle.raw_token.specs.declared.RawToken.{RawToken}
-use Rattle.raw_token.specs.declared.RawToken.TheVariants.{Found, NoMatch}
 use Rattle.literal.specs.declared.Literal.TheVariants as L
-use Rattle.literal.specs.declared.Lexed.TheVariants.{Value}
 use Rattle.lexer.specs.Value.{value_of}
 use Rattle.rendered.proofs.Lexeme.{Lexeme, is_fixed}
 use Rattle.rendered.specs.Spelled.{spelled_fixed, spelled_bool}
 
 -- the token at the front, computed
-read : List ℕ → RawToken
+read : List ℕ → Option RawToken
 unfolding token_at_lem table P.behind P.literal P.name P.int P.fraction P.exponent P.float rows sequence_length first_code holds xid_start xid_continue
 read w = token_at_lem w 0
 
-is_token : ℕ → ℕ → RawToken → Bool
-is_token code n (Found c end) = eqb c code && eqb end n
-is_token code n NoMatch = false
+is_token : ℕ → ℕ → Option RawToken → Bool
+is_token code n (Some t) = eqb t.code code && eqb t.end n
+is_token code n None = false
 
-is-token : (code n : ℕ) (t : RawToken) → is_token code n t ≡ true → t ≡ Found code n
+is-token : (code n : ℕ) (t : Option RawToken) → is_token code n t ≡ true → t ≡ Some (raw_token code n)
 unfolding is_token
-is-token code n (Found c end) e =
-    let p = eqb-true c code (and_left (eqb c code) (eqb end n) e) in
-    let q = eqb-true end n (and_right (eqb c code) (eqb end n) e) in
-    cc
-is-token code n NoMatch e = absurd (true≢false (sym e))
+is-token code n (Some t) e =
+    let p = eqb-true t.code code (and_left (eqb t.code code) (eqb t.end n) e) in
+    let q = eqb-true t.end n (and_right (eqb t.code code) (eqb t.end n) e) in
+    ap (λ (c : ℕ). Some (raw_token c t.end)) p ∙ ap (λ (m : ℕ). Some (raw_token code m)) q
+is-token code n None e = absurd (true≢false (sym e))
 
 reads_back : ℕ → Bool
 reads_back code = not (is_fixed code) || is_token code (length (spelled_fixed code)) (read (spelled_fixed code))
@@ -65,7 +64,7 @@ unfolding read
 bool_lexeme true = refl
 bool_lexeme false = refl
 
-pub bool_value : (t : Bool) (used : ℕ) → value_of Code.Bool (spelled_bool t) used ≡ Value (L.Bool t)
+pub bool_value : (t : Bool) (used : ℕ) → value_of Code.Bool (spelled_bool t) used ≡ Some (L.Bool t)
 unfolding value_of
 bool_value true used = refl
 bool_value false used = refl

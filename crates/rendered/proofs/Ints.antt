@@ -11,25 +11,23 @@ use lib.IntN.{ℤ, pos, negsuc, neg_ℤ}
 use lib.ListN.{length, get_or, drop}
 use lib.Seq.{drop-length}
 use borrow.Author.Tests.{le-leb, ne_eqb, ltb-true, leb-true}
+use Rattle.std.specs.Prelude.{Some, None}
 use Rattle.source.specs.Bytes.{run, digit}
 use Rattle.source.proofs.Bools.{and_left, and_right}
 use Rattle.token.specs.Code as Code
 use Rattle.numbers.specs.Digits.{number, is_minus, digits}
 use Rattle.numbers.specs.Integer.{in_i64, in_range, signed, integer_of}
-use Rattle.numbers.specs.declared.integer.Integer.TheVariants as I
-use Rattle.numbers.proofs.Joining.{step_below}
+use Rattle.numbers.proofs.Joining.{step_other}
 use Rattle.numbers.proofs.Written.{digits_value, digits_shortest}
 use Rattle.raw_token.specs.Pattern as P
-use Rattle.raw_token.specs.Table.{literal, int, table}
+use Rattle.raw_token.specs.Table.{raw_token, literal, int, table}
 use Rattle.raw_token.specs.Parts.{number_at, signed_at}
-use Rattle.raw_token.specs.declared.RawToken.TheVariants.{Found}
 use Rattle.raw_token.proofs.Steps.{behind_some, float_none}
 use Rattle.raw_token.proofs.Words.{all_in}
 use Rattle.raw_token.proofs.First as F
 use Rattle.literal.specs.Literal.{of_integer, lex_integer_lem}
 use Rattle.literal.specs.declared.Literal.{Literal}
 use Rattle.literal.specs.declared.Literal.TheVariants as L
-use Rattle.literal.specs.declared.Lexed.TheVariants.{Value}
 use Rattle.rendered.proofs.Lexeme.{Lexeme}
 use Rattle.rendered.specs.Spelled.{spelled_int}
 
@@ -87,7 +85,7 @@ digits_lexeme l (some b r e d a) =
     let i : 0 + length l ≡ length l = omega arith in
     let z : P.fraction (drop (0 + length l) l) ≡ 0 = ap (λ (j : ℕ). P.fraction (drop j l)) i ∙ ap P.fraction (drop-length l) ∙ no_fraction in
     F.number l 0 (omega arith) (ap digit h ∙ d)
-    ∙ rw (float_none l 0 (length l) 0 (sym n) (sym z) refl, n) (ap (Found Code.Int) (omega arith))
+    ∙ rw (float_none l 0 (length l) 0 (sym n) (sym z) refl, n) (ap (λ (k : ℕ). Some (raw_token Code.Int k)) (omega arith))
 
 keep_minus : F.keep table 45 ≡ (Code.Int, int) ∷ (Code.Minus, literal (45 ∷ [])) ∷ []
 unfolding table
@@ -106,7 +104,7 @@ unfolding signed_at
 signed_lexeme l (some b r e d a) =
     let n : P.int (45 ∷ l) ≡ suc (length l) = signed_int l (all_run digit l a) (omega (arith, ap length e)) in
     F.signed (45 ∷ l) 0 45 45 (suc-le-suc zero-le) refl alike_minus Code.Minus keep_minus
-    ∙ rw (n, ne_eqb (suc (length l)) 0 (omega arith)) (ap (Found Code.Int) (omega arith))
+    ∙ rw (n, ne_eqb (suc (length l)) 0 (omega arith)) (ap (λ (k : ℕ). Some (raw_token Code.Int k)) (omega arith))
 
 pub int_lexeme : (z : ℤ) → Lexeme Code.Int (spelled_int z)
 int_lexeme (pos n) = digits_lexeme _ (digits_some _ n)
@@ -122,9 +120,9 @@ no_minus l (some b r e d a) =
 
 minus_number : (l : List ℕ) → number 0 (45 ∷ l) ≡ number 0 l
 unfolding number
-minus_number l = ap (λ (k : ℕ). number k l) (step_below 0 45 (omega arith))
+minus_number l = ap (λ (k : ℕ). number k l) (step_other 0 45 refl)
 
-pub int-value : (z : ℤ) → in_i64 z ≡ true → lex_integer_lem (spelled_int z) ≡ Value (L.Int z)
+pub int-value : (z : ℤ) → in_i64 z ≡ true → lex_integer_lem (spelled_int z) ≡ Some (L.Int z)
 unfolding lex_integer_lem integer_of in_range
 int-value (pos n) h =
     let k = ltb-true n (2 ^ 63) h in
@@ -141,11 +139,11 @@ abbrev pub read_int : List ℕ → ℤ
 read_int w = signed (is_minus w) (number 0 w)
 
 -- is its literal, and can be written
-pub int_read : (w : List ℕ) (v : Literal) → lex_integer_lem w ≡ Value v → (v ≡ L.Int (read_int w)) × (in_i64 (read_int w) ≡ true)
+pub int_read : (w : List ℕ) (v : Literal) → lex_integer_lem w ≡ Some v → (v ≡ L.Int (read_int w)) × (in_i64 (read_int w) ≡ true)
 unfolding lex_integer_lem integer_of in_range
 int_read w v = go (in_i64 (read_int w))
   where
-    go : (t : Bool) → of_integer (cond t (I.Value (read_int w)) I.OutOfRange) ≡ Value v → (v ≡ L.Int (read_int w)) × (t ≡ true)
+    go : (t : Bool) → of_integer (cond t (Some (read_int w)) None) ≡ Some v → (v ≡ L.Int (read_int w)) × (t ≡ true)
     go true e = (cc, refl)
     go false e = let k : ◌≡◌ {A = ℕ} 0 1 = cc in absurd (omega arith)
 
@@ -172,7 +170,7 @@ read_short (b ∷ l) h = go (ℕ_discrete b 45)
     go (no d) = rw (ne_eqb b 45 d) (digits_shortest 19 (b ∷ l) h)
 
 -- no bytes with its value are fewer than it is written with
-pub int_shortest : (w : List ℕ) (z : ℤ) → 0 < length w → lex_integer_lem w ≡ Value (L.Int z) → length (spelled_int z) ≤ length w
+pub int_shortest : (w : List ℕ) (z : ℤ) → 0 < length w → lex_integer_lem w ≡ Some (L.Int z) → length (spelled_int z) ≤ length w
 int_shortest w z h e =
     let r = (int_read w (L.Int z) e).0 in
     let q : z ≡ read_int w = cc in

@@ -6,27 +6,26 @@ use mathlib.Core.Bool.{Bool, ◌&&◌, ◌||◌}
 use mathlib.Core.List.{List, [], ◌∷◌}
 use lib.Dec.{eqb, leb}
 use lib.ListN.{length, get_or}
+use Rattle.std.specs.Prelude.{Some}
 use Rattle.source.specs.Bytes.{between}
 use Rattle.source.proofs.Ranges.{is_in}
 use Rattle.token.specs.Code as Code
 use Rattle.raw_token.specs.Pattern as P
 use Rattle.raw_token.specs.Pattern.{one, is_quote}
 use Rattle.raw_token.specs.Parts.{ascii_continues_lem}
-use Rattle.raw_token.specs.Table.{token_at_lem}
-use Rattle.raw_token.specs.declared.RawToken.TheVariants.{Found}
+use Rattle.raw_token.specs.Table.{raw_token, token_at_lem}
 use Rattle.literal.specs.declared.Literal.{Literal}
-use Rattle.literal.specs.declared.Lexed.TheVariants.{Value}
 use Rattle.lexer.specs.Value.{value_of, text_of}
 
 -- the bytes w alone are one token with this code
 abbrev pub Lexeme : ℕ → List ℕ → Type 0
-Lexeme code w = token_at_lem w 0 ≡ Found code (length w)
+Lexeme code w = token_at_lem w 0 ≡ Some (raw_token code (length w))
 
 -- and, not being a line feed, have this literal, where so many bytes of text stand before them, and add this to the text
 pub record Reads (code : ℕ) (w : List ℕ) (literal : ℕ → Literal) (text : List ℕ) : Type 0 where
   pub lexeme : Lexeme code w
   pub no_feed : code ≡ Code.Newline → ⊥
-  pub valued : (used : ℕ) → value_of code w used ≡ Value (literal used)
+  pub valued : (used : ℕ) → value_of code w used ≡ Some (literal used)
   pub adds : text_of code w ≡ text
 
 -- the codes of one fixed text, but for the line feed: keywords, operators, brackets and marks

@@ -8,14 +8,13 @@ use native.Mathlib.Omega.{arith}
 use lib.IntN.{ℤ}
 use lib.ListN.{length}
 use borrow.Author.Tests.{ne_eqb}
+use Rattle.std.specs.Prelude.{Some}
 use Rattle.source.specs.Bytes.{part}
 use Rattle.token.specs.Code as Code
-use Rattle.raw_token.specs.Table.{token_at_lem}
-use Rattle.raw_token.specs.declared.RawToken.TheVariants.{Found}
+use Rattle.raw_token.specs.Table.{raw_token, token_at_lem}
 use Rattle.numbers.specs.Integer.{in_i64}
 use Rattle.literal.specs.declared.Literal.{Literal}
 use Rattle.literal.specs.declared.Literal.TheVariants as L
-use Rattle.literal.specs.declared.Lexed.TheVariants.{Value}
 use Rattle.lexer.specs.Value.{value_of, text_of}
 use Rattle.lexer.proofs.Values.{value_int, value_float, value_none}
 use Rattle.rendered.proofs.Lexeme.{Lexeme, Reads, is_fixed}
@@ -70,11 +69,11 @@ pub tee_reads : Reads Code.Identifier (116 ∷ []) (λ used. L.None) []
 tee_reads = named (116 ∷ []) tree_lexeme
 
 module _ (s : List ℕ) (start end : ℕ) where
-  pub name_reads : token_at_lem s start ≡ Found Code.Identifier end → Reads Code.Identifier (part s start end) (λ used. L.None) []
+  pub name_reads : token_at_lem s start ≡ Some (raw_token Code.Identifier end) → Reads Code.Identifier (part s start end) (λ used. L.None) []
   name_reads e = named (part s start end) (alone s start Code.Identifier end e)
 
   -- a Float that was read: the same bytes have the same value
-  pub float_reads : token_at_lem s start ≡ Found Code.Float end → (used : ℕ) (v : Literal) → value_of Code.Float (part s start end) used ≡ Value v → Reads Code.Float (part s start end) (λ used. v) []
+  pub float_reads : token_at_lem s start ≡ Some (raw_token Code.Float end) → (used : ℕ) (v : Literal) → value_of Code.Float (part s start end) used ≡ Some v → Reads Code.Float (part s start end) (λ used. v) []
   float_reads e used v val =
       let w = part s start end in
       record {

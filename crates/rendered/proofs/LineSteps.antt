@@ -9,6 +9,7 @@ use native.Mathlib.Omega.{arith}
 use lib.Dec.{ltb}
 use lib.ListN.{length, get_or, drop, replicate, length-append, length-replicate, get_or-eq_default}
 use borrow.Author.Tests.{ne_eqb, lt-ltb, le-ltb}
+use Rattle.std.specs.Prelude.{Result, Ok}
 use Rattle.source.specs.Bytes.{run}
 use Rattle.source.proofs.Lists.{past, length_at, byte_at, drop_more}
 use Rattle.source.proofs.Ranges.{NotIn}
@@ -24,6 +25,7 @@ use Rattle.lexer.proofs.Enough.{from, from_is}
 use Rattle.lexer.proofs.Finding.{next_closed}
 use Rattle.rendered.proofs.Inked.{Inked}
 use Rattle.rendered.proofs.Steps.{plain_from}
+use Rattle.source.specs.declared.refusal.Refusal.{Refusal}
 
 -- the marks of a line at this level behind one at the level `top`, and how many they are
 abbrev pub level_marks : ℕ → ℕ → ℕ → List Token
@@ -45,8 +47,8 @@ no_spaces l e = ap (run is_space) e
 
 -- the levels as marks
 module _ (at top level : ℕ) (rises : level ≤ suc top) where
-  at_level : (end : ℕ) → end ≡ at + step * level → Indentation
-  at_level end e = cond (ltb top level) (Level end Code.Indent 1 (step * level)) (Level end Code.Dedent (top - level) (step * level))
+  at_level : (end : ℕ) → end ≡ at + step * level → Result Indentation Refusal
+  at_level end e = cond (ltb top level) (Ok (Level end Code.Indent 1 (step * level))) (Ok (Level end Code.Dedent (top - level) (step * level)))
 
   level_is : (end : ℕ) (e : end ≡ at + step * level) → at_level end e ≡ level_of at end (step * top)
   unfolding at_level
@@ -69,7 +71,7 @@ module _ (at top level : ℕ) (rises : level ≤ suc top) where
 module _ (s : List ℕ) (at top level used b : ℕ) (within : at + step * level ≤ length s) (rises : level ≤ suc top) (isEnd : at + step * level ≡ spaces_end_lem s at) (is_b : b ≡ get_or s (at + step * level) 0) (other : NotIn (35 ∷ 13 ∷ 10 ∷ 9 ∷ []) b)
     (count : ℕ) (ts : List Token) (bs : List ℕ) (next : from s (lexer (at + step * level) false (step * level) (count + mark_count top level) used) ≡ scanned ts bs) where
   marks_scan : (t : Bool) → from s (lexer (at + step * level) false (step * level) (count + cond t 1 (top - level)) used) ≡ scanned ts bs
-      → marks_then (token_then s (from s)) (lexer at true (step * top) count used) (cond t (Level (at + step * level) Code.Indent 1 (step * level)) (Level (at + step * level) Code.Dedent (top - level) (step * level)))
+      → marks_then (token_then s (from s)) (lexer at true (step * top) count used) (cond t (Ok (Level (at + step * level) Code.Indent 1 (step * level))) (Ok (Level (at + step * level) Code.Dedent (top - level) (step * level))))
       ≡ scanned (cond t (mark Code.Indent at (at + step * level) ∷ []) (replicate (top - level) (mark Code.Dedent at (at + step * level))) ++ ts) bs
   marks_scan true k = rw (← plain_from s (at + step * level) level (count + 1) used within, k)
   marks_scan false k = rw (← plain_from s (at + step * level) level (count + (top - level)) used within, k)

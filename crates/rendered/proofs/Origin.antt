@@ -5,13 +5,12 @@ use mathlib.Core.Bool.{true}
 use mathlib.Core.List.{List, []}
 use Prim.Native.Nat.{ℕ}
 use lib.ListN.{length}
+use Rattle.std.specs.Prelude.{Some}
 use Rattle.token.specs.Code as Code
 use Rattle.tokens.specs.Token.{Token, token}
 use Rattle.numbers.specs.Integer.{in_i64}
 use Rattle.literal.specs.declared.Literal.TheVariants as L
-use Rattle.literal.specs.declared.Lexed.TheVariants.{Value}
-use Rattle.raw_token.specs.Table.{token_at_lem}
-use Rattle.raw_token.specs.declared.RawToken.TheVariants.{Found}
+use Rattle.raw_token.specs.Table.{raw_token, token_at_lem}
 use Rattle.lexer.specs.Value.{value_of}
 use Rattle.lexer.specs.Scan.{scanned, mark, token_list}
 use Rattle.lexer.proofs.Values.{value_int}
@@ -23,9 +22,9 @@ use Rattle.rendered.proofs.Lexemes.{name_reads, float_reads}
 
 -- a token that is no mark, as it was found
 pub record Origin (s : List ℕ) (t : Token) : Type 0 where
-  pub found : token_at_lem s t.start ≡ Found t.code t.end
+  pub found : token_at_lem s t.start ≡ Some (raw_token t.code t.end)
   pub used : ℕ
-  pub value : value_of t.code (bytes_of s t) used ≡ Value t.literal
+  pub value : value_of t.code (bytes_of s t) used ≡ Some t.literal
 
 abbrev pub FromSource : List ℕ → Token → Type 0
 FromSource s t = (t.code ≡ Code.Indent → ⊥) → (t.code ≡ Code.Dedent → ⊥) → (t.code ≡ Code.Eof → ⊥) → Origin s t
@@ -47,8 +46,8 @@ module _ (s : List ℕ) (t : Token) (o : Origin s t) where
   int_origin e = int_read (bytes_of s t) t.literal (sym (value_int t.code (bytes_of s t) o.used e) ∙ o.value)
 
   -- a name's and a Float's bytes
-  pub found_as : (code : ℕ) → t.code ≡ code → token_at_lem s t.start ≡ Found code t.end
-  found_as code e = o.found ∙ ap (λ (c : ℕ). Found c t.end) e
+  pub found_as : (code : ℕ) → t.code ≡ code → token_at_lem s t.start ≡ Some (raw_token code t.end)
+  found_as code e = o.found ∙ ap (λ (c : ℕ). Some (raw_token c t.end)) e
 
   pub name_origin : t.code ≡ Code.Identifier → Reads Code.Identifier (bytes_of s t) (λ used. L.None) []
   name_origin e = name_reads s t.start t.end (found_as Code.Identifier e)

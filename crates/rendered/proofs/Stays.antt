@@ -8,14 +8,14 @@ use native.Mathlib.Omega.{arith}
 use lib.Dec.{eqb}
 use lib.ListN.{length}
 use borrow.Author.Tests.{eqb-true, not-true}
+use Rattle.std.specs.Prelude.{Some}
 use Rattle.source.proofs.Bools.{and_left, and_right, or_either}
 use Rattle.source.proofs.Ranges.{is_in}
 use Rattle.token.specs.Code as Code
 use Rattle.raw_token.specs.Pattern as P
 use Rattle.raw_token.specs.Pattern.{is_quote, behind, body}
-use Rattle.raw_token.specs.Table.{Pattern, literal, int, string, name, float, len, Entry, table, longer, longest, found, token_at_lem}
+use Rattle.raw_token.specs.Table.{raw_token, Pattern, literal, int, string, name, float, len, Entry, table, longer, longest, found, token_at_lem}
 use Rattle.raw_token.specs.Parts.{string_at}
-use Rattle.raw_token.specs.declared.RawToken.TheVariants.{Found}
 use Rattle.raw_token.proofs.Words.{all_in}
 use Rattle.raw_token.proofs.First.{starts, miss, alike, keep, quoted, past_end}
 use Rattle.raw_token.proofs.Within.{found_best}
@@ -123,7 +123,7 @@ quote_token b l =
     (λ e. quoted (b ∷ l) 0 34 34 (suc-le-suc zero-le) (eqb-true b 34 e) alike_34 keep_34)
     (λ e. quoted (b ∷ l) 0 39 39 (suc-le-suc zero-le) (eqb-true b 39 e) alike_39 keep_39)
 
-quote_stays : (b : ℕ) (l r : List ℕ) (code end : ℕ) → is_quote b ≡ true → token_at_lem (b ∷ l) 0 ≡ Found code end → token_at_lem (b ∷ (l ++ r)) 0 ≡ Found code end
+quote_stays : (b : ℕ) (l r : List ℕ) (code end : ℕ) → is_quote b ≡ true → token_at_lem (b ∷ l) 0 ≡ Some (raw_token code end) → token_at_lem (b ∷ (l ++ r)) 0 ≡ Some (raw_token code end)
 unfolding string_at
 quote_stays b l r code end q e =
     let f = sym (quote_token b l q) ∙ e in
@@ -132,14 +132,14 @@ quote_stays b l r code end q e =
 
 -- ---- any lexeme
 
-pub stays : (code : ℕ) (w r : List ℕ) → Lexeme code w → parted w r ≡ true → token_at_lem (w ++ r) 0 ≡ Found code (length w)
+pub stays : (code : ℕ) (w r : List ℕ) → Lexeme code w → parted w r ≡ true → token_at_lem (w ++ r) 0 ≡ Some (raw_token code (length w))
 stays code [] r e t =
     let f = past_end [] 0 zero-le in
     let z : ◌≡◌ {A = ℕ} 0 1 = cc in
     absurd (omega arith)
 stays code (b ∷ l) r e t = go (sealed b) refl (is_quote b) refl t
   where
-    go : (u : Bool) → sealed b ≡ u → (v : Bool) → is_quote b ≡ v → ((u || v) || apart r) ≡ true → token_at_lem (b ∷ (l ++ r)) 0 ≡ Found code (suc (length l))
+    go : (u : Bool) → sealed b ≡ u → (v : Bool) → is_quote b ≡ v → ((u || v) || apart r) ≡ true → token_at_lem (b ∷ (l ++ r)) 0 ≡ Some (raw_token code (suc (length l)))
     go true h v k a = sealed_stays b (l ++ r) l h ∙ e
     go false h true k a = quote_stays b l r code (suc (length l)) k e
     go false h false k a = apart_stays b l r k a ∙ e

@@ -8,18 +8,16 @@ use native.Mathlib.Omega.{arith}
 use lib.Dec.{eqb}
 use lib.ListN.{length, drop, length-append}
 use borrow.Author.Tests.{ne_eqb}
+use Rattle.std.specs.Prelude.{Option, Some, None}
 use Rattle.source.specs.Bytes.{part}
 use Rattle.source.proofs.Lists.{length_at, part_at, drop_more}
 use Rattle.token.specs.Code as Code
 use Rattle.tokens.specs.Token.{Token, token}
-use Rattle.raw_token.specs.Table.{token_at_lem}
+use Rattle.raw_token.specs.Table.{raw_token, token_at_lem}
 use Rattle.raw_token.specs.declared.RawToken.{RawToken}
-use Rattle.raw_token.specs.declared.RawToken.TheVariants.{Found, NoMatch}
 use Rattle.raw_token.proofs.Laws.{newline_at}
 use Rattle.literal.specs.declared.Literal.{Literal}
 use Rattle.literal.specs.declared.Literal.TheVariants as L
-use Rattle.literal.specs.declared.Lexed.{Lexed}
-use Rattle.literal.specs.declared.Lexed.TheVariants.{Value, Refused}
 use Rattle.spacing.specs.Gap.{gap, gap_end_lem}
 use Rattle.spacing.specs.Indentation.{step}
 use Rattle.lexer.specs.Value.{value_of, text_of}
@@ -36,12 +34,12 @@ use Rattle.rendered.proofs.Inked.{Inked, inked}
 
 -- a token with its value, where the next one starts at `start`
 token_scan : (s : List ℕ) (rest : Rest) (x : Lexer) (start code : ℕ) (w r : List ℕ) (v : Literal) → start ≡ gap_end_lem s x.at → drop start s ≡ w ++ r
-    → token_at_lem (w ++ r) 0 ≡ Found code (length w) → 0 < length w → value_of code w x.used ≡ Value v
+    → token_at_lem (w ++ r) 0 ≡ Some (raw_token code (length w)) → 0 < length w → value_of code w x.used ≡ Some v
     → token_then s rest x
     ≡ prepend (token code start (start + length w) v ∷ []) (text_of code w)
     (rest (lexer (start + length w) (eqb code Code.Newline || x.flag) x.top (x.count + 1) (x.used + length (text_of code w))))
 token_scan s rest x start code w r v g e f n val =
-    next_found s x start g (omega (arith, length_at s start (w ++ r) e, length-append w r)) (Found code (start + length w)) (token-at s start code w r e f) rest
+    next_found s x start g (omega (arith, length_at s start (w ++ r) e, length-append w r)) (Some (raw_token code (start + length w))) (token-at s start code w r e f) rest
     ∙ rw (part_at s start w r e, val)
 
 -- the flag cleared: no spaces are counted
@@ -57,13 +55,13 @@ space_gap s at r e = omega (arith, ap (gap false) e, ap (gap false) (drop_more s
 
 -- the next token is the same, from a place on where it starts as well
 module _ (s : List ℕ) (rest : Rest) (at at' top count used : ℕ) where
-  same_value : (code start end : ℕ) (bs : List ℕ) (v : Lexed) → value_then rest (lexer at false top count used) code start end bs v ≡ value_then rest (lexer at' false top count used) code start end bs v
-  same_value code start end bs (Value v) = refl
-  same_value code start end bs Refused = refl
+  same_value : (code start end : ℕ) (bs : List ℕ) (v : Option Literal) → value_then rest (lexer at false top count used) code start end bs v ≡ value_then rest (lexer at' false top count used) code start end bs v
+  same_value code start end bs (Some v) = refl
+  same_value code start end bs None = refl
 
-  same_found : (start : ℕ) (t : RawToken) → found_then s rest (lexer at false top count used) start t ≡ found_then s rest (lexer at' false top count used) start t
-  same_found start (Found code end) = same_value code start end (text_of code (part s start end)) (value_of code (part s start end) used)
-  same_found start NoMatch = refl
+  same_found : (start : ℕ) (t : Option RawToken) → found_then s rest (lexer at false top count used) start t ≡ found_then s rest (lexer at' false top count used) start t
+  same_found start (Some t) = same_value t.code start t.end (text_of t.code (part s start t.end)) (value_of t.code (part s start t.end) used)
+  same_found start None = refl
 
   same_start : gap_end_lem s at ≡ gap_end_lem s at' → token_then s rest (lexer at false top count used) ≡ token_then s rest (lexer at' false top count used)
   unfolding token_then closed
@@ -84,7 +82,7 @@ no_gap s at b l i e =
     omega (arith, ap (gap false) e ∙ g)
 
 pub token_step : (s : List ℕ) (top code : ℕ) (w r : List ℕ) (v : Literal) (at count used : ℕ) (ts : List Token) (bs : List ℕ)
-    → Lexeme code w → (code ≡ Code.Newline → ⊥) → value_of code w used ≡ Value v → parted w r ≡ true
+    → Lexeme code w → (code ≡ Code.Newline → ⊥) → value_of code w used ≡ Some v → parted w r ≡ true
     → at ≤ length s → drop at s ≡ w ++ r
     → from s (lexer (at + length w) false (step * top) (count + 1) (used + length (text_of code w))) ≡ scanned ts bs
     → from s (lexer at false (step * top) count used) ≡ scanned (token code at (at + length w) v ∷ ts) (text_of code w ++ bs)
@@ -96,7 +94,7 @@ token_step s top code (b ∷ w) r v at count used ts bs a n val f h e k =
 
 -- ---- the line feed
 
-newline_value : (used : ℕ) → value_of Code.Newline (10 ∷ []) used ≡ Value L.None
+newline_value : (used : ℕ) → value_of Code.Newline (10 ∷ []) used ≡ Some L.None
 unfolding value_of
 newline_value used = refl
 

@@ -9,16 +9,16 @@ use native.Mathlib.Omega.{arith}
 use lib.ListN.{length, take, length-append}
 use lib.Seq.{take_at}
 use borrow.Author.Tests.{ne_eqb}
+use Rattle.std.specs.Prelude.{Some}
 use Rattle.token.specs.Code as Code
 use Rattle.strings.specs.Decoded.{escape, decode_from, decoded}
+use Rattle.raw_token.specs.Table.{raw_token}
 use Rattle.raw_token.specs.Pattern as P
 use Rattle.raw_token.specs.Pattern.{behind, body}
 use Rattle.raw_token.specs.Parts.{string_at}
-use Rattle.raw_token.specs.declared.RawToken.TheVariants.{Found}
 use Rattle.raw_token.proofs.Steps.{behind_some}
 use Rattle.literal.specs.Literal.{unquoted, lex_string_lem}
 use Rattle.literal.specs.declared.Literal.TheVariants as L
-use Rattle.literal.specs.declared.Lexed.TheVariants.{Value}
 use Rattle.lexer.specs.Value.{value_of, text_of}
 use Rattle.lexer.proofs.Values.{value_string}
 use Rattle.rendered.proofs.Lexeme.{Lexeme}
@@ -74,7 +74,7 @@ string_lexeme l =
     let r = escaped_all l ++ 34 ∷ [] in
     let h : 0 < length r = omega (arith, length-append (escaped_all l) (34 ∷ [])) in
     let n : P.string (34 ∷ r) ≡ suc (length r) = ap (behind 1) (body_all l) ∙ behind_some 1 (length r) (omega arith) ∙ omega arith in
-    quote_token 34 r refl ∙ rw (n, ne_eqb (suc (length r)) 0 (omega arith)) (ap (Found Code.String) (omega arith))
+    quote_token 34 r refl ∙ rw (n, ne_eqb (suc (length r)) 0 (omega arith)) (ap (λ (k : ℕ). Some (raw_token Code.String k)) (omega arith))
 
 -- ---- what it decodes to
 
@@ -104,6 +104,6 @@ pub string_text : (l : List ℕ) → text_of Code.String (spelled_string l) ≡ 
 unfolding text_of
 string_text l = string_decoded l
 
-pub string_value : (l : List ℕ) (used : ℕ) → value_of Code.String (spelled_string l) used ≡ Value (L.String used (length l))
+pub string_value : (l : List ℕ) (used : ℕ) → value_of Code.String (spelled_string l) used ≡ Some (L.String used (length l))
 unfolding lex_string_lem
-string_value l used = value_string Code.String (spelled_string l) used refl ∙ ap (λ (x : List ℕ). Value (L.String used (length x))) (string_decoded l)
+string_value l used = value_string Code.String (spelled_string l) used refl ∙ ap (λ (x : List ℕ). Some (L.String used (length x))) (string_decoded l)

@@ -10,6 +10,7 @@ use native.Mathlib.Numerals.{add-one}
 use native.Mathlib.Omega.{arith}
 use lib.ListN.{length, get_or, take, drop, length-drop, drop_of_length-le}
 use lib.Seq.{drop-cons, drop-drop, drop-append_seam, take_at, take-nil, get_or-drop}
+use Rattle.std.specs.List.{prefix_len}
 use Rattle.source.specs.Bytes.{run, part, Len}
 
 -- the list at a place within it: the byte there, and the list at the next place
@@ -27,6 +28,15 @@ run_le p (b ∷ l) = go (p b) (run_le p l)
     go : (t : Bool) → run p l ≤ length l → cond t (suc (run p l)) 0 ≤ suc (length l)
     go true h = suc-le-suc h
     go false h = zero-le
+
+-- the library counts the same
+pub run_prefix : (p : ℕ → Bool) (l : List ℕ) → prefix_len p l ≡ run p l
+run_prefix p [] = refl
+run_prefix p (b ∷ l) = rw (run_prefix p l) (go (p b))
+  where
+    go : (t : Bool) → cond t (1 + run p l) 0 ≡ cond t (suc (run p l)) 0
+    go true = omega arith
+    go false = refl
 
 -- a byte of the class: the run goes on behind it
 pub run_more : (p : ℕ → Bool) (s : List ℕ) (i : ℕ) → i < length s → p (get_or s i 0) ≡ true → i + run p (drop i s) ≡ (i + 1) + run p (drop (i + 1) s)

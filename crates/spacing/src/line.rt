@@ -2,10 +2,12 @@
 ghost use Rattle.std.specs.Prelude.{◌≡◌, ◌-◌, ◌≤◌, ◌<◌, ◌^◌, length};
 ghost use Rattle.spacing.specs.Indentation.{spaces_end_lem, level_of, indentation_at};
 
+use source::{Reason, Refusal};
+
 // How many spaces one level is more than the one below it.
 pub const STEP: usize = 2;
 
-#[derive(Clone, Copy)]
+#[derive(Clone, Copy, Debug, PartialEq, Eq)]
 pub enum Indentation {
     // The line has no token of its own: the place behind its spaces.
     Blank(usize),
@@ -16,10 +18,6 @@ pub enum Indentation {
         marks: usize,
         top: usize,
     },
-    No {
-        number: u32,
-        place: usize,
-    },
 }
 
 // Where the spaces from `at` on end.
@@ -27,83 +25,66 @@ fn spaces_end(s: &[u8], at: usize) -> usize
     requires { at ≤ length s.now }
     ensures { (result ≡ spaces_end_lem s.now at) × (at ≤ result) × (result ≤ length s.now) }
 {
-    let mut i = at;
-    while i < s.len() {
-        if s[i] == b' ' {
-            i += 1;
-        } else {
-            return i;
-        }
-    }
-    i
-}
-
-// What the spaces from `at` to `end` say where they are more than the top: one step more, or too many or too few.
-fn deeper(at: usize, end: usize, top: usize) -> Indentation
-    requires { (top < end - at) × (top < 2 ^ 32) }
-    ensures { result ≡ level_of at end top }
-{
-    let spaces = end - at;
-    if spaces == top + STEP {
-        return Indentation::Level {
-            end,
-            code: token::INDENT,
-            marks: 1,
-            top: spaces,
-        };
-    }
-    Indentation::No {
-        number: 7,
-        place: at,
-    }
+    let rest = &s[at..];
+    at + rest.iter().position(|b| *b != b' ').unwrap_or(rest.len())
 }
 
 // What the spaces from `at` to `end` say, against the top.
-fn level(at: usize, end: usize, top: usize) -> Indentation
+#[tactic(auto, unfolding(crate::specs::Indentation::level_of))]
+fn level(at: usize, end: usize, top: usize) -> Result<Indentation, Refusal>
     requires { (at ≤ end) × (top < 2 ^ 32) }
     ensures { result ≡ level_of at end top }
 {
     let spaces = end - at;
     if spaces == top {
-        return Indentation::Level {
+        return Ok(Indentation::Level {
             end,
             code: token::DEDENT,
             marks: 0,
             top,
-        };
+        });
+    }
+    if spaces == top + STEP {
+        return Ok(Indentation::Level {
+            end,
+            code: token::INDENT,
+            marks: 1,
+            top: spaces,
+        });
     }
     if top < spaces {
-        return deeper(at, end, top);
+        return Err(Refusal {
+            reason: Reason::TooFar,
+            place: at,
+        });
     }
-    if spaces % STEP == 0 {
-        return Indentation::Level {
-            end,
-            code: token::DEDENT,
-            marks: (top - spaces) / STEP,
-            top: spaces,
-        };
+    if spaces % STEP != 0 {
+        return Err(Refusal {
+            reason: Reason::NoLevel,
+            place: at,
+        });
     }
-    Indentation::No {
-        number: 8,
-        place: at,
-    }
+    Ok(Indentation::Level {
+        end,
+        code: token::DEDENT,
+        marks: (top - spaces) / STEP,
+        top: spaces,
+    })
 }
 
 // What a line's spaces say, by the byte behind them.
-pub fn measure(s: &[u8], at: usize, top: usize) -> Indentation
+#[tactic(auto, unfolding(crate::specs::Indentation::indentation_at))]
+pub fn measure(s: &[u8], at: usize, top: usize) -> Result<Indentation, Refusal>
     requires { (at ≤ length s.now) × (top < 2 ^ 32) }
     ensures { result ≡ indentation_at s.now at top }
 {
     let end = spaces_end(s, at);
-    let b = source::byte(s, end);
-    match b {
-        b'\t' => Indentation::No {
-            number: 6,
+    match source::byte(s, end) {
+        b'\t' => Err(Refusal {
+            reason: Reason::Tab,
             place: end,
-        },
-        b'\n' => Indentation::Blank(end),
-        b'\r' => Indentation::Blank(end),
-        b'#' => Indentation::Blank(end),
+        }),
+        b'\n' | b'\r' | b'#' => Ok(Indentation::Blank(end)),
         _ => level(at, end, top),
     }
 }

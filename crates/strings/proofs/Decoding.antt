@@ -5,9 +5,8 @@ use mathlib.Core.Bool.{Bool, true, cond}
 use mathlib.Core.List.{List, [], ◌∷◌, ◌++◌}
 use Prim.Native.Nat.{ℕ, ◌+◌, ◌<◌, ◌≤◌}
 use native.Mathlib.Nat.{add_assoc}
-use native.Mathlib.Numerals.{add-one, add-two}
 use native.Mathlib.Omega.{arith}
-use lib.ListN.{length, get_or, set, drop}
+use lib.ListN.{length, get_or, drop}
 use lib.Seq.{sets}
 use borrow.Author.Tests.{eq-eqb, ne_eqb}
 use Rattle.source.proofs.Lists.{at_cons, past}
@@ -63,18 +62,6 @@ Todo s at text₀ i o text =
     (at + length (decoded s) ≡ o + length (decoded (drop i s))) × (sets text₀ at (decoded s) ≡ sets text o (decoded (drop i s)))
 
 module _ (s : List ℕ) (at : ℕ) (text₀ : List ℕ) (i o : ℕ) (text : List ℕ) (t : Todo s at text₀ i o text) where
-  pub one_byte : (j v : ℕ) → decoded (drop i s) ≡ v ∷ decoded (drop j s) → Todo s at text₀ j (o + 1) (set text o v)
-  one_byte j v e = (
-    t.0 ∙ ap (λ (l : List ℕ). o + length l) e ∙ omega arith,
-    t.1 ∙ ap (sets text o) e ∙ ap (λ (k : ℕ). sets (set text o v) k (decoded (drop j s))) (sym (add-one o)),
-  )
-
-  pub two_bytes : (j v w : ℕ) → decoded (drop i s) ≡ v ∷ w ∷ decoded (drop j s) → Todo s at text₀ j (o + 2) (set (set text o v) (o + 1) w)
-  two_bytes j v w e = (
-    t.0 ∙ ap (λ (l : List ℕ). o + length l) e ∙ omega arith,
-    t.1 ∙ ap (sets text o) e ∙ rw (add-one, add-two),
-  )
-
   pub written : length s ≤ i → (o ≡ at + length (decoded s)) × (text ≡ sets text₀ at (decoded s))
   written h =
       let e = none s i h in

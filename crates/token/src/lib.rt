@@ -1,5 +1,7 @@
 // The codes of the tokens (src/lexer/token.rs), and three kinds of number that must not be taken for one another.
 // specs/Code.antt has the same codes for the contracts.
+//
+// The codes are constants and no enum: they are the first word of a token in the slice that C lends, and the rules choose by one match on that word.
 #![tactic(auto)]
 
 pub const IF: u32 = 1;
@@ -101,13 +103,13 @@ pub const NEWLINE: u32 = 48;
 pub const EOF: u32 = 49;
 
 // A byte's place in the source.
-#[derive(Clone, Copy)]
+#[derive(Clone, Copy, Debug, PartialEq, Eq, PartialOrd, Ord)]
 pub struct Place(pub u32);
 
 // A token's number in the token list.
-#[derive(Clone, Copy)]
+#[derive(Clone, Copy, Debug, PartialEq, Eq, PartialOrd, Ord)]
 pub struct TokenNumber(pub u32);
 
 // A node's number in the tree.
-#[derive(Clone, Copy)]
+#[derive(Clone, Copy, Debug, PartialEq, Eq, PartialOrd, Ord)]
 pub struct NodeNumber(pub u32);

@@ -3,50 +3,49 @@
 use mathlib.Core.Path.{◌≡◌, refl}
 use mathlib.Core.List.{List, [], ◌∷◌}
 use Prim.Native.Nat.{ℕ}
+use Rattle.std.specs.Prelude.{Option, Some, None}
 use Rattle.source.specs.Text.{bytes}
-use Rattle.utf8.specs.declared.Utf8.{Utf8}
-use Rattle.utf8.specs.declared.Utf8.TheVariants.{WellFormed, IllFormed}
 use Rattle.utf8.specs.Table.{rows, sequence_length, first_ill_formed, utf8_error_lem, eight, taken, rounds_past, rounds}
 use Rattle.utf8.specs.Character.{first_code}
 
-says : List ℕ → Utf8
+says : List ℕ → Option ℕ
 unfolding rows sequence_length first_ill_formed utf8_error_lem
 says s = utf8_error_lem s
 
-nothing : says [] ≡ WellFormed
+nothing : says [] ≡ None
 unfolding says
 nothing = refl
 
-ascii : says (bytes "if a:\n") ≡ WellFormed
+ascii : says (bytes "if a:\n") ≡ None
 unfolding says
 ascii = refl
 
 -- U+0065, U+00E9, U+20AC and U+1F600: a sequence of each length
-each_length : says (0x65 ∷ 0xC3 ∷ 0xA9 ∷ 0xE2 ∷ 0x82 ∷ 0xAC ∷ 0xF0 ∷ 0x9F ∷ 0x98 ∷ 0x80 ∷ []) ≡ WellFormed
+each_length : says (0x65 ∷ 0xC3 ∷ 0xA9 ∷ 0xE2 ∷ 0x82 ∷ 0xAC ∷ 0xF0 ∷ 0x9F ∷ 0x98 ∷ 0x80 ∷ []) ≡ None
 unfolding says
 each_length = refl
 
 -- ED A0 80 would be the surrogate U+D800, ED 9F BF is U+D7FF
-surrogate : says (0xED ∷ 0x9F ∷ 0xBF ∷ 0xED ∷ 0xA0 ∷ 0x80 ∷ []) ≡ IllFormed 3
+surrogate : says (0xED ∷ 0x9F ∷ 0xBF ∷ 0xED ∷ 0xA0 ∷ 0x80 ∷ []) ≡ Some 3
 unfolding says
 surrogate = refl
 
 -- C0 AF would be U+002F and E0 9F BF U+07FF, each with a byte too many
-overlong_two : says (0x61 ∷ 0xC0 ∷ 0xAF ∷ []) ≡ IllFormed 1
+overlong_two : says (0x61 ∷ 0xC0 ∷ 0xAF ∷ []) ≡ Some 1
 unfolding says
 overlong_two = refl
 
-overlong_three : says (0xE0 ∷ 0x9F ∷ 0xBF ∷ []) ≡ IllFormed 0
+overlong_three : says (0xE0 ∷ 0x9F ∷ 0xBF ∷ []) ≡ Some 0
 unfolding says
 overlong_three = refl
 
 -- a sequence that the end cuts off: the place is its first byte's, not the end
-cut_off : says (0x61 ∷ 0x62 ∷ 0xE2 ∷ 0x82 ∷ []) ≡ IllFormed 2
+cut_off : says (0x61 ∷ 0x62 ∷ 0xE2 ∷ 0x82 ∷ []) ≡ Some 2
 unfolding says
 cut_off = refl
 
 -- F4 8F BF BF is U+10FFFF, the last; F4 90 80 80 would be above it
-too_large : says (0xF4 ∷ 0x8F ∷ 0xBF ∷ 0xBF ∷ 0xF4 ∷ 0x90 ∷ 0x80 ∷ 0x80 ∷ []) ≡ IllFormed 4
+too_large : says (0xF4 ∷ 0x8F ∷ 0xBF ∷ 0xBF ∷ 0xF4 ∷ 0x90 ∷ 0x80 ∷ 0x80 ∷ []) ≡ Some 4
 unfolding says
 too_large = refl
 

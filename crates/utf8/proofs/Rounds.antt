@@ -10,10 +10,10 @@ use native.Mathlib.Nat.{add-zero, zero-add}
 use native.Mathlib.Omega.{arith}
 use lib.ListN.{length, get_or, drop, length-drop}
 use lib.Seq.{drop-drop}
+use Rattle.std.specs.Prelude.{Some, None}
 use Rattle.source.proofs.Bools.{and_left, and_right}
 use Rattle.source.proofs.Lists.{at_cons, past, place}
 use Rattle.utf8.specs.Table.{fits, sequence_length, utf8_error_lem, eight, taken, one_more_lem, rounds_past, rounds}
-use Rattle.utf8.specs.declared.Utf8.TheVariants.{WellFormed, IllFormed}
 use Rattle.utf8.proofs.Rows.{error_from, at_start, at_end, goes_on, ill_formed_here, low_at, fits_length, sequence_within}
 use Rattle.utf8.proofs.Lows.{low, lows, low_below}
 
@@ -131,12 +131,12 @@ module _ (s : List ℕ) (i r : ℕ) (kept : Kept s i r) where
         }
 
     -- an ill-formed one
-    pub stopped : n ≡ 0 → (IllFormed i ≡ utf8_error_lem s) × (r + 1 ≡ rounds s)
+    pub stopped : n ≡ 0 → (Some i ≡ utf8_error_lem s) × (r + 1 ≡ rounds s)
     stopped z = (sym (kept.error ∙ ill_formed_here s i n h is_n z), omega (arith, kept.count, last_round s i n h is_taken z))
 
   -- a byte below 128 is one
   pub took_low : i < length s → low (get_or s i 0) ≡ true → fits eight (drop i s) ≡ false → Kept s (i + 1) (r + 1)
   took_low h b e = took_sequence 1 h e (sym (low_at s i h (low_below (get_or s i 0) b))) (omega arith)
 
-  pub finished : length s ≤ i → (WellFormed ≡ utf8_error_lem s) × (r ≡ rounds s)
+  pub finished : length s ≤ i → (None ≡ utf8_error_lem s) × (r ≡ rounds s)
   finished h = (sym (kept.error ∙ at_end s i h), omega (arith, kept.count, no_round s i h))

@@ -11,12 +11,12 @@ use lib.Dec.{eqb}
 use lib.ListN.{length, get_or, drop, length-drop, get_or-eq_default}
 use lib.Seq.{drop-drop}
 use borrow.Author.Tests.{lt-leb, le-leb, eqb-true}
+use Rattle.std.specs.Prelude.{Option, Some, None}
+use Rattle.std.proofs.lemmas.Option.{none-some, same_Some}
 use Rattle.source.specs.Bytes.{between}
 use Rattle.source.proofs.Bools.{and_left, and_right, and_true}
 use Rattle.source.proofs.Lists.{at_cons, past, place}
-use Rattle.utf8.specs.Table.{Row, rows, fits, length_by, sequence_length, step, first_ill_formed, utf8_error_lem}
-use Rattle.utf8.specs.declared.Utf8.{Utf8}
-use Rattle.utf8.specs.declared.Utf8.TheVariants.{WellFormed, IllFormed}
+use Rattle.utf8.specs.Table.{Row, rows, fits, length_by, sequence_length, some_length, sequence_at, step, first_ill_formed, utf8_error_lem}
 
 -- the byte at a place, and the bytes behind it
 fits_at : (lo hi : ℕ) (rs : Row) (s : List ℕ) (i : ℕ) → 0 < lo → fits ((lo, hi) ∷ rs) (drop i s) ≡ (between lo hi (get_or s i 0) && fits rs (drop (i + 1) s))
@@ -128,6 +128,25 @@ low_sequence b l h = rw (le-leb 0 b zero-le, le-leb b 127 (omega arith))
 pub low_at : (s : List ℕ) (i : ℕ) → i < length s → get_or s i 0 < 128 → sequence_length (drop i s) ≡ 1
 low_at s i h b = ap sequence_length (at_cons s i h) ∙ low_sequence (get_or s i 0) (drop (i + 1) s) b
 
+-- a length as an answer
+pub answered : (n : ℕ) (l : List ℕ) → sequence_length l ≡ n → some_length n ≡ sequence_at l
+answered n l e = ap some_length (sym e)
+
+-- the length that is one, and where there is none
+pub length_is : (r : Option ℕ) (l : List ℕ) (n : ℕ) → r ≡ sequence_at l → r ≡ Some n → (n ≡ sequence_length l) × (0 < n)
+length_is r l n e h = go (sequence_length l) (sym e ∙ h)
+  where
+    go : (m : ℕ) → some_length m ≡ Some n → (n ≡ m) × (0 < n)
+    go zero h = absurd (none-some n h)
+    go (suc m) h = let e = same_Some (suc m) n h in (sym e, omega (arith, e))
+
+pub no_length : (r : Option ℕ) (l : List ℕ) → r ≡ sequence_at l → r ≡ None → 0 ≡ sequence_length l
+no_length r l e h = go (sequence_length l) (sym e ∙ h)
+  where
+    go : (m : ℕ) → some_length m ≡ None → 0 ≡ m
+    go zero h = refl
+    go (suc m) h = absurd (none-some (suc m) (sym h))
+
 -- as much fuel as there are bytes is enough: any more changes nothing
 pub enough : (f g i : ℕ) (l : List ℕ) → length l ≤ f → length l ≤ g → first_ill_formed f i l ≡ first_ill_formed g i l
 unfolding first_ill_formed
@@ -148,7 +167,7 @@ enough (suc f) (suc g) i (b ∷ l) h k =
     go (suc n) r = r (suc n) (omega arith)
 
 -- what is found from i on
-pub error_from : List ℕ → ℕ → Utf8
+pub error_from : List ℕ → ℕ → Option ℕ
 error_from s i = first_ill_formed (length s - i) i (drop i s)
 
 module _ (s : List ℕ) (i n : ℕ) (within : i < length s) (is_n : n ≡ sequence_length (drop i s)) where
@@ -158,7 +177,7 @@ module _ (s : List ℕ) (i n : ℕ) (within : i < length s) (is_n : n ≡ sequen
       let e : length s - i ≡ suc (length s - (i + 1)) = omega arith in
       rw (e, ← is_n, drop-drop)
 
-  pub ill_formed_here : n ≡ 0 → error_from s i ≡ IllFormed i
+  pub ill_formed_here : n ≡ 0 → error_from s i ≡ Some i
   ill_formed_here z = once ∙ rw (z, at_cons s i within)
 
   pub goes_on : (n ≡ 0 → ⊥) → error_from s i ≡ error_from s (i + n)
@@ -169,11 +188,11 @@ module _ (s : List ℕ) (i n : ℕ) (within : i < length s) (is_n : n ≡ sequen
       ∙ go n h (first_ill_formed (length s - (i + 1)) (i + n) (drop (i + n) s))
       ∙ enough _ _ (i + n) (drop (i + n) s) (omega (arith, length-drop (i + n) s)) (omega (arith, length-drop (i + n) s))
     where
-      go : (m : ℕ) → (m ≡ 0 → ⊥) → (rest : Utf8) → step (get_or s i 0 ∷ drop (i + 1) s) m i rest ≡ rest
+      go : (m : ℕ) → (m ≡ 0 → ⊥) → (rest : Option ℕ) → step (get_or s i 0 ∷ drop (i + 1) s) m i rest ≡ rest
       go zero h rest = absurd (h refl)
       go (suc m) h rest = refl
 
-pub at_end : (s : List ℕ) (i : ℕ) → length s ≤ i → error_from s i ≡ WellFormed
+pub at_end : (s : List ℕ) (i : ℕ) → length s ≤ i → error_from s i ≡ None
 unfolding error_from first_ill_formed
 at_end s i h = let e : length s - i ≡ 0 = omega arith in rw e
 

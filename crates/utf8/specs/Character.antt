@@ -1,6 +1,6 @@
 -- The character at a place: the well-formed sequence there and its code point (The Unicode Standard, chapter 3, table 3-6 "UTF-8 Bit Distribution").
 -- Assumes nothing.
-use Rattle.std.specs.Prelude.{ℕ, ◌+◌, ◌*◌, ◌-◌, ◌%◌, ◌≤◌, ◌≡◌, List, [], ◌∷◌, length, take, drop}
+use Rattle.std.specs.Prelude.{ℕ, ◌+◌, ◌*◌, ◌-◌, ◌%◌, ◌≤◌, ◌≡◌, List, [], ◌∷◌, length, take, drop, ◌<◌, Option, MatchOption}
 use Rattle.utf8.specs.Table.{sequence_length}
 use Rattle.utf8.specs.declared.character.Character.{Character}
 
@@ -17,9 +17,14 @@ code_point (a ∷ b ∷ d ∷ e ∷ l) = ((a % 8 * 64 + b % 64) * 64 + d % 64) *
 unfoldable pub first_code : List ℕ → ℕ
 first_code l = code_point (take (sequence_length l) l)
 
--- r is the character at the place `at` of s: its code point and its length, which is 0 where no well-formed sequence begins
-pub record Decoded (s : List ℕ) (at : ℕ) (r : Character) : Type 0 where
-  pub code_is : r.code ≡ first_code (drop at s)
-  pub len_is : r.len ≡ sequence_length (drop at s)
+-- c is the character at the place `at` of s: its code point and its length
+pub record Stands (s : List ℕ) (at : ℕ) (c : Character) : Type 0 where
+  pub code_is : c.code ≡ first_code (drop at s)
+  pub len_is : c.len ≡ sequence_length (drop at s)
+  pub begins : 0 < c.len
   -- (follows; for callers)
-  pub within : r.len ≤ length s - at
+  pub within : c.len ≤ length s - at
+
+-- r is the character at the place `at` of s, and none where no well-formed sequence begins
+abbrev pub Decoded : List ℕ → ℕ → Option Character → Type 0
+Decoded s at r = MatchOption r (sequence_length (drop at s) ≡ 0) (Stands s at)

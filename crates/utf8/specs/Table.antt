@@ -1,10 +1,8 @@
 -- Well-formed UTF-8 (The Unicode Standard, chapter 3, table 3-7 "Well-Formed UTF-8 Byte Sequences"), and question 5 of 01: "UTF-8 by Unicode
 -- table 3-7? No: 5, first byte of the bad sequence". Behind them the rounds of the check (02, change 2).
 -- Assumes nothing.
-use Rattle.std.specs.Prelude.{ℕ, zero, suc, ◌+◌, ◌-◌, Bool, true, false, cond, ◌&&◌, List, [], ◌∷◌, length, drop, replicate}
+use Rattle.std.specs.Prelude.{ℕ, zero, suc, ◌+◌, ◌-◌, Bool, true, false, cond, ◌&&◌, List, [], ◌∷◌, length, drop, replicate, Option, Some, None}
 use Rattle.source.specs.Bytes.{between}
-use Rattle.utf8.specs.declared.Utf8.{Utf8}
-use Rattle.utf8.specs.declared.Utf8.TheVariants.{WellFormed, IllFormed}
 
 -- a row of the table: the range of each byte of a sequence, both ends included
 abbrev pub Row : Type 0
@@ -43,25 +41,34 @@ abbrev pub length_by : List Row → List ℕ → ℕ
 length_by [] l = 0
 length_by (row ∷ more) l = cond (fits row l) (length row) (length_by more l)
 
+-- a length of 0 is none
+abbrev pub some_length : ℕ → Option ℕ
+some_length zero = None
+some_length (suc n) = Some (suc n)
+
 -- the length of the well-formed sequence at the front of the list, and 0 where there is none
 unfoldable pub sequence_length : List ℕ → ℕ
 sequence_length l = length_by rows l
 
+-- the same as an answer: a length, or none
+abbrev pub sequence_at : List ℕ → Option ℕ
+sequence_at l = some_length (sequence_length l)
+
 -- what is found at i, where l stands and begins with a sequence of n bytes: at the end all is well; where no sequence begins, the ill-formed one
 -- begins at i; behind a sequence the rest decides
-abbrev pub step : List ℕ → ℕ → ℕ → Utf8 → Utf8
-step [] n i rest = WellFormed
-step (b ∷ l) zero i rest = IllFormed i
+abbrev pub step : List ℕ → ℕ → ℕ → Option ℕ → Option ℕ
+step [] n i rest = None
+step (b ∷ l) zero i rest = Some i
 step (b ∷ l) (suc n) i rest = rest
 
 -- the first place from i on where no well-formed sequence begins, the list being what stands at i. Each sequence takes a byte or more, so as
 -- much fuel as the list has bytes is enough (proofs/Rows.antt, `enough`)
-unfoldable pub first_ill_formed : ℕ → ℕ → List ℕ → Utf8
-first_ill_formed zero i l = WellFormed
+unfoldable pub first_ill_formed : ℕ → ℕ → List ℕ → Option ℕ
+first_ill_formed zero i l = None
 first_ill_formed (suc fuel) i l = step l (sequence_length l) i (first_ill_formed fuel (i + sequence_length l) (drop (sequence_length l) l))
 
--- whether the whole list is well-formed UTF-8, or the first byte of its first ill-formed sequence
-unfoldable pub utf8_error_lem : List ℕ → Utf8
+-- the first byte of the first ill-formed sequence of the whole list; none where it is well-formed UTF-8
+unfoldable pub utf8_error_lem : List ℕ → Option ℕ
 utf8_error_lem s = first_ill_formed (length s) 0 s
 
 -- "each taking the next eight bytes if all are under 128": eight ranges from 0 to 127, which a list fits as it fits a row

@@ -9,21 +9,16 @@ pub mod character; // character.rt: the character at a place, decoded
 mod eight; // eight.rt: whether eight bytes below 128 stand at a place
 mod sequence; // sequence.rt: the well-formed sequence at a place
 
-#[derive(Clone, Copy)]
-pub enum Utf8 {
-    WellFormed,
-    IllFormed(usize),
-}
-
-// What was found, and in how many rounds.
+// The first byte of the first ill-formed sequence, if there is one, and in how many rounds that was found.
 #[derive(Clone, Copy)]
 pub struct Checked {
-    pub found: Utf8,
+    pub found: Option<usize>,
     pub rounds: usize,
 }
 
-// Well formed, or the first byte of the first ill-formed sequence. A round takes "the next eight bytes if all are under 128, else one sequence, good or bad"
-// (02, change 2). Where no eight stand, none do at the bytes below 128 up to the next other byte, so these are a round each.
+// Where the first ill-formed sequence begins, if there is one. A round takes "the next eight bytes if all are under 128, else one sequence, good or bad"
+// (02, change 2). Where no eight stand, none do at the bytes below 128 up to the next other byte, so these are a round each. The place is moved by hand, since
+// a round takes eight bytes, one, or a sequence.
 pub fn utf8_error(s: &[u8]) -> Checked
     ensures found_value { result.found ≡ utf8_error_lem s.now }
     ensures rounds_value { result.rounds ≡ rounds s.now }
@@ -40,20 +35,18 @@ pub fn utf8_error(s: &[u8]) -> Checked
             rounds += 1;
         }
         if i < s.len() {
-            let n = sequence::sequence(s, i);
-            if n == 0 {
-                rounds += 1;
+            rounds += 1;
+            let Some(n) = sequence::sequence(s, i) else {
                 return Checked {
-                    found: Utf8::IllFormed(i),
+                    found: Some(i),
                     rounds,
                 };
-            }
+            };
             i += n;
-            rounds += 1;
         }
     }
     Checked {
-        found: Utf8::WellFormed,
+        found: None,
         rounds,
     }
 }

@@ -4,7 +4,6 @@ use mathlib.Core.Path.{◌≡◌, refl}
 use Prim.Native.Nat.{ℕ, ◌*◌}
 use mathlib.Core.Bool.{true}
 use lib.Dec.{T}
-use lib.ListN.{length}
 use Rattle.xid.specs.Row.{frequent}
 use Rattle.xid.specs.Ranges.{holds, apart, size, twice_sum}
 use Rattle.xid.specs.Tables.{xid_start, xid_continue}
@@ -38,14 +37,6 @@ start_sum = refl
 pub continue_sum : twice_sum xid_continue ≡ 2 * 15131785619
 unfolding twice_sum xid_continue
 continue_sum = refl
-
-pub start_length : 6 * 222 ≡ length xid_start
-unfolding xid_start
-start_length = refl
-
-pub continue_length : 6 * 259 ≡ length xid_continue
-unfolding xid_continue
-continue_length = refl
 
 -- what needs no search
 pub frequent_held : (k : Class) (c : ℕ) → holds frequent c ≡ true → holds (table_of k) c ≡ true

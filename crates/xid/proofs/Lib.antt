@@ -2,3 +2,4 @@ pub mod Halving
 pub mod Checked
 pub mod Ascii
 mod Examples
+pub mod Tabled

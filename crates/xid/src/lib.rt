@@ -1,9 +1,9 @@
 // Whether a code point may begin a name, or continue one: the classes XID_Start and XID_Continue of Unicode (UAX #31), by a search in their ranges.
 #![tactic(auto)]
 
-ghost use Rattle.std.specs.Prelude.{◌≡◌, ◌*◌, ◌<◌, length};
-ghost use Rattle.xid.specs.Row.{bounds, frequent};
-ghost use Rattle.xid.specs.Ranges.{holds, row_of};
+ghost use Rattle.std.specs.Prelude.{◌≡◌};
+ghost use Rattle.xid.specs.Row.{all, frequent};
+ghost use Rattle.xid.specs.Ranges.{holds};
 ghost use Rattle.xid.specs.Classes.{is_start_lem, is_continue_lem, table_of};
 
 mod continuation; // continuation.rt: the rows of XID_Continue
@@ -18,24 +18,13 @@ enum Class {
     Continuation,
 }
 
-// How many rows a class has.
-fn rows(class: Class) -> usize
-    ensures { 6 * result ≡ length (table_of class) }
+// The rows of a class.
+fn table(class: Class) -> &'static [Row]
+    ensures { all result.now ≡ table_of class }
 {
     match class {
-        Class::Start => start::ROWS,
-        Class::Continuation => continuation::ROWS,
-    }
-}
-
-// Row i of a class.
-fn row_of(class: Class, i: usize) -> Row
-    requires { 6 * i < length (table_of class) }
-    ensures { bounds result ≡ row_of (table_of class) i }
-{
-    match class {
-        Class::Start => start::row_at(i),
-        Class::Continuation => continuation::row_at(i),
+        Class::Start => &start::ROWS,
+        Class::Continuation => &continuation::ROWS,
     }
 }
 
@@ -44,10 +33,11 @@ fn held(class: Class, c: u32) -> bool
     ensures { result ≡ holds (table_of class) c }
 {
     let mut lo: usize = 0;
-    let mut hi = rows(class);
+    let rows = table(class);
+    let mut hi = rows.len();
     while lo < hi {
         let mid = lo + (hi - lo) / 2;
-        let row = row_of(class, mid);
+        let row = rows[mid];
         if c < row.0 {
             hi = mid;
         } else if row.5 < c {

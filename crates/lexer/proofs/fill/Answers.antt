@@ -1,35 +1,16 @@
 -- `lexer::fill` meets its contract: the scan, and zeros behind what it filled.
-use native.Mathlib.Omega.{arith}
-use mathlib.Core.Path.{◌∙◌}
-use Rattle.lexer.proofs.Running.{fills_tokens, fills_none, ran_within, told_runs}
+use mathlib.Core.Path.{◌≡◌, refl, ◌∙◌}
+use Rattle.lexer.specs.Steps.{Exact}
+use Rattle.lexer.proofs.Running.{words_filled, bytes_filled, fills}
 use Rattle.lexer.proofs.fill.Goals as goal
+use Rattle.lexer.proofs.fill.Goals.{in-Ok, in-Err}
 
-pub overflow_add-count : goal.overflow_add-count
-overflow_add-count c =
-    let w = ran_within c.args.src.now _ _ _ c.run.ensures _ _ c.in-Tokens.is in
-    let p = c.requires in
-    omega arith
-
-pub overflow_mul-count : goal.overflow_mul-count
-overflow_mul-count c =
-    let w = ran_within c.args.src.now _ _ _ c.run.ensures _ _ c.in-Tokens.is in
-    let p = c.requires in
-    omega arith
-
-pub zero_words-requires : goal.zero_words-requires
-zero_words-requires c =
-    let w = ran_within c.args.src.now _ _ _ c.run.ensures _ _ c.in-Tokens.is in
-    let p = c.requires in
-    omega arith
-
-pub zero_bytes-requires : goal.zero_bytes-requires
-zero_bytes-requires c =
-    let w = ran_within c.args.src.now _ _ _ c.run.ensures _ _ c.in-Tokens.is in
-    let p = c.requires in
-    omega arith
-
-pub returns-in-Tokens : goal.returns-in-Tokens
-returns-in-Tokens c = fills_tokens c.args.src.now _ _ (record { small = c.requires.small; tokens_long = c.run.auto.tokens ∙ c.requires.tokens_long; text_long = c.run.auto.text ∙ c.requires.text_long }) _ _ _ _ (told_runs _ _ _ _ _ c.run.ensures c.in-Tokens.is) c.zero_words.ensures c.zero_bytes.ensures
-
-pub returns-in-No : goal.returns-in-No
-returns-in-No c = fills_none c.args.src.now _ _ (record { small = c.requires.small; tokens_long = c.run.auto.tokens ∙ c.requires.tokens_long; text_long = c.run.auto.text ∙ c.requires.text_long }) _ _ _ _ (told_runs _ _ _ _ _ c.run.ensures c.in-No.is) c.zero_words-in-No.ensures c.zero_bytes-in-No.ensures
+pub returns : goal.returns
+returns c =
+    let r = c.run-scanned.result in
+    let n : (c.match-scanned.filled.0 ≡ words_filled r) × (c.match-scanned.filled.1 ≡ bytes_filled r) = elim c.match-scanned.branch [
+      | in-Ok w ↦ rw (w.filled-is, w.in-Ok.is) (refl, refl)
+      | in-Err w ↦ rw (w.filled-is, w.in-Err.is) (refl, refl)
+    ] in
+    let exact : Exact c.args.src.now c.run-scanned.new.tokens c.run-scanned.new.text = record { small = c.requires.small; tokens_long = c.run-scanned.auto.tokens ∙ c.requires.tokens_long; text_long = c.run-scanned.auto.text ∙ c.requires.text_long } in
+    fills c.args.src.now c.run-scanned.new.tokens c.run-scanned.new.text exact r _ _ c.run-scanned.ensures (rw n.0 at c.put_zeros.ensures) (rw n.1 at c.put_zeros-2.ensures)

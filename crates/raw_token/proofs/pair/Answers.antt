@@ -9,10 +9,10 @@ pub returns-then-byte-second : goal.returns-then-byte-second
 unfolding pair_at
 returns-then-byte-second c =
     let a = c.args in
-    rw (prefix_hit a.second a.s.now (a.at + 1) c.requires.1 (sym c.byte.ensures ∙ c.if-byte-second.true))
+    rw (prefix_miss a.second a.s.now (a.at + 1) (λ e. c.if-byte-second.true (c.byte.ensures ∙ e))) c.mark.ensures
 
-pub returns-else-byte-second : goal.returns-else-byte-second
+pub returns : goal.returns
 unfolding pair_at
-returns-else-byte-second c =
+returns c =
     let a = c.args in
-    rw (prefix_miss a.second a.s.now (a.at + 1) (λ e. c.if-byte-second.false (c.byte.ensures ∙ e)))
+    rw (prefix_hit a.second a.s.now (a.at + 1) c.requires.1 (sym c.byte.ensures ∙ c.if-byte-second.false))

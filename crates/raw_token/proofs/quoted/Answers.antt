@@ -1,18 +1,23 @@
 -- `raw_token::quoted` meets its contract, by the two cases of its definition.
-use borrow.Author.Tests.{eq-eqb, ne_eqb}
-use mathlib.Core.Path.{sym, ap, ◌∙◌}
+use borrow.Author.Tests.{ne_eqb}
+use mathlib.Core.Path.{ap}
 use Prim.Native.Nat.{ℕ, ◌+◌}
+use Rattle.std.specs.Prelude.{Some}
 use Rattle.token.specs.Code.{String}
+use Rattle.raw_token.specs.Pattern.{string}
 use Rattle.raw_token.specs.Parts.{string_at}
-use Rattle.raw_token.specs.declared.RawToken.TheVariants.{Found}
+use Rattle.raw_token.specs.Table.{raw_token}
+use Rattle.raw_token.proofs.Steps.{matches_is, misses_is}
 use Rattle.raw_token.proofs.quoted.Goals as goal
 
-pub returns-then-n-eq0 : goal.returns-then-n-eq0
+pub returns-in_err-n : goal.returns-in_err-n
 unfolding string_at
-returns-then-n-eq0 c = rw (eq-eqb _ 0 (sym c.string_len-n.ensures.is ∙ c.if-n-eq0.true))
+returns-in_err-n c =
+    let z = misses_is string c.args.s.now c.args.at c.in_err-n.ensures in
+    rw (c.from_residual.ensures, z)
 
-pub returns-else-n-eq0 : goal.returns-else-n-eq0
+pub returns : goal.returns
 unfolding string_at
-returns-else-n-eq0 c =
-    let e = c.string_len-n.ensures.is in
-    rw (ne_eqb _ 0 (λ z. c.if-n-eq0.false (e ∙ z))) (ap (λ (k : ℕ). Found String (c.args.at + k)) e)
+returns c =
+    let m = matches_is string c.args.s.now c.args.at _ c.in_ok-n.ensures in
+    rw (ne_eqb _ 0 m.1) (ap (λ (k : ℕ). Some (raw_token String (c.args.at + k))) m.0)

@@ -1,18 +1,23 @@
 -- `raw_token::signed` meets its contract, by the two cases of its definition.
-use borrow.Author.Tests.{eq-eqb, ne_eqb}
-use mathlib.Core.Path.{sym, ap, ◌∙◌}
+use borrow.Author.Tests.{ne_eqb}
+use mathlib.Core.Path.{ap}
 use Prim.Native.Nat.{ℕ, ◌+◌}
+use Rattle.std.specs.Prelude.{Some}
 use Rattle.token.specs.Code.{Int}
+use Rattle.raw_token.specs.Pattern.{int}
 use Rattle.raw_token.specs.Parts.{signed_at}
-use Rattle.raw_token.specs.declared.RawToken.TheVariants.{Found}
+use Rattle.raw_token.specs.Table.{raw_token}
+use Rattle.raw_token.proofs.Steps.{matches_is, misses_is}
 use Rattle.raw_token.proofs.signed.Goals as goal
 
-pub returns-then-n-eq0 : goal.returns-then-n-eq0
+pub returns-in_default : goal.returns-in_default
 unfolding signed_at
-returns-then-n-eq0 c = rw (eq-eqb _ 0 (sym c.int_len-n.ensures.is ∙ c.if-n-eq0.true))
+returns-in_default c =
+    let z = misses_is int c.args.s.now c.args.at c.in_default.ensures in
+    rw z c.mark.ensures
 
-pub returns-else-n-eq0 : goal.returns-else-n-eq0
+pub returns : goal.returns
 unfolding signed_at
-returns-else-n-eq0 c =
-    let e = c.int_len-n.ensures.is in
-    rw (ne_eqb _ 0 (λ z. c.if-n-eq0.false (e ∙ z))) (ap (λ (k : ℕ). Found Int (c.args.at + k)) e)
+returns c =
+    let m = matches_is int c.args.s.now c.args.at _ c.in-Some.ensures in
+    rw (ne_eqb _ 0 m.1) (ap (λ (k : ℕ). Some (raw_token Int (c.args.at + k))) m.0)

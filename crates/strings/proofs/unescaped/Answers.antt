@@ -1,11 +1,11 @@
 -- `strings::unescaped` meets its contract: at each key the value computes, and any other byte is no escape.
-use mathlib.Core.Path.{sym}
+use mathlib.Core.Path.{sym, ap}
 use mathlib.Core.List.{[], ◌∷◌}
 use Prim.Native.Nat.{ℕ, zero-le}
 use lib.Dec.{eqb}
 use borrow.Author.Tests.{eqb-true}
 use Rattle.source.proofs.Ranges.{arm}
-use Rattle.strings.specs.Decoded.{unescape}
+use Rattle.strings.specs.Decoded.{unescape, some_byte}
 use Rattle.strings.proofs.unescaped.Goals as goal
 
 pub returns-in-110 : goal.returns-in-110
@@ -30,4 +30,4 @@ pub returns-in_default : goal.returns-in_default
 returns-in_default c =
     let none = arm (39 ∷ 34 ∷ 92 ∷ 114 ∷ 116 ∷ 110 ∷ []) (λ (x : ℕ). eqb (unescape x) 0) 0 256 tt
     c.args.b zero-le c.ranges.b.fits c.in_default.in_default-own.rest in
-    sym (eqb-true (unescape c.args.b) 0 none)
+    ap some_byte (sym (eqb-true (unescape c.args.b) 0 none))

@@ -5,7 +5,7 @@ use Rattle.xid.proofs.Halving.{Between}
 use Rattle.xid.proofs.held.Given as goal
 
 abbrev pub invariant-loop-lo : goal.invariant-loop-lo
-invariant-loop-lo l = Between (table_of l.class) l.c l.lo l.hi
+invariant-loop-lo l = Between (table_of l.fn.class) l.c l.lo l.hi
 
 abbrev pub decreases-loop-lo : goal.decreases-loop-lo
 decreases-loop-lo l = l.hi - l.lo

@@ -25,12 +25,12 @@ returns-in-18 c =
 pub returns-in-19 : goal.returns-in-19
 returns-in-19 c =
     let a = c.args in
-    c.value_in.ensures ∙ ap literal_in (c.lex_integer.ensures ∙ sym (value_int a.code (part a.src.now a.start a.end) a.used c.in-19.is))
+    c.unwrap_or.ensures ∙ ap literal_in (c.lex_integer.ensures ∙ sym (value_int a.code (part a.src.now a.start a.end) a.used c.in-19.is))
 
 pub returns-in-22 : goal.returns-in-22
 returns-in-22 c =
     let a = c.args in
-    c.value_in-in-22.ensures ∙ ap literal_in (c.lex_float.ensures ∙ sym (value_float a.code (part a.src.now a.start a.end) a.used c.in-22.is))
+    c.unwrap_or-in-22.ensures ∙ ap literal_in (c.lex_float.ensures ∙ sym (value_float a.code (part a.src.now a.start a.end) a.used c.in-22.is))
 
 pub returns-in-20 : goal.returns-in-20
 returns-in-20 c =

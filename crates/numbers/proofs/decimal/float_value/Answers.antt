@@ -3,8 +3,8 @@ use mathlib.Core.Path.{◌≡◌, refl, ap, ◌∙◌}
 use mathlib.Core.List.{List}
 use Prim.Native.Nat.{ℕ, ◌+◌}
 use lib.ListN.{drop}
+use Rattle.std.specs.Prelude.{Float, Option}
 use Rattle.numbers.specs.declared.decimal.Scale.{Scale}
-use Rattle.numbers.specs.declared.decimal.Decimal.{Decimal}
 use Rattle.numbers.specs.Digits.{number, is_minus}
 use Rattle.numbers.specs.Decimal.{scale_of, value_of, decimal_of}
 use Rattle.numbers.proofs.Admitted.{assembled, rest, none}
@@ -18,7 +18,7 @@ text c = c.args.s.now
 abbrev e : After-places-after → ℕ
 e c = c.find-e.result
 
-whole : (c : After-places-after) (p : Scale) (r : Decimal) (x : List ℕ) → x ≡ drop (e c + 1) (text c)
+whole : (c : After-places-after) (p : Scale) (r : Option Float) (x : List ℕ) → x ≡ drop (e c + 1) (text c)
     → value_of c.joined-m.result p ≡ value_of c.joined-m.result (scale_of (is_minus x) (number 0 x) c.places-after.result)
     → r ≡ value_of c.joined-m.result p → r ≡ decimal_of (text c)
 whole c p r x hx hp hr =

@@ -1,33 +1,15 @@
-use mathlib.Core.Path.{refl, ◌∙◌}
+use mathlib.Core.Path.{◌∙◌}
 use native.Mathlib.Omega.{arith}
 use Rattle.numbers.proofs.Joining.{turn, all_joined}
 use Rattle.numbers.proofs.digits.joined.Goals as goal
 
-pub loop-i-init : goal.loop-i-init
-loop-i-init c = (omega arith, omega arith, refl)
-
-pub bounds-s-i : goal.bounds-s-i
-bounds-s-i c = omega arith
-
-pub next-n-requires : goal.next-n-requires
-next-n-requires c = omega arith
-
-pub overflow_add-i : goal.overflow_add-i
-overflow_add-i c = omega arith
-
-pub loop-i-smaller : goal.loop-i-smaller
-loop-i-smaller c = omega arith
-
-pub loop-i-preserved : goal.loop-i-preserved
-loop-i-preserved c =
-    let a = c.args in (
-      omega arith,
-      omega arith,
-      turn a.cap a.s.now c.loop-i.n c.next-n.result c.loop-i.i c.loop-i-test.true c.next-n.ensures
-          ∙ c.loop-i.invariant.2,
-    )
+pub loop-b-preserved : goal.loop-b-preserved
+loop-b-preserved c =
+    let a = c.args in
+    let l = c.loop-b in
+    (omega (arith, c.next-n.ensures), turn a.cap a.s.now l.n c.next-n.result l.b-index c.loop-b-test.true c.next-n.ensures ∙ l.invariant.1)
 
 pub returns : goal.returns
 returns c =
     let a = c.args in
-    omega (arith, all_joined a.s.now c.loop-i.n c.loop-i.i c.loop-i-test.false)
+    omega (arith, c.loop-b.invariant.0, c.loop-b.invariant.1, all_joined a.s.now c.loop-b.n c.loop-b.b-index c.loop-b-test.false)

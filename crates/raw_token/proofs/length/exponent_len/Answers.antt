@@ -1,28 +1,26 @@
 -- `raw_token::length::exponent_len` meets its contract: the letter decides.
-use borrow.Author.Rules.{rules}
-use native.Mathlib.Omega.{arith}
 use mathlib.Core.Path.{refl, sym, ap, ◌∙◌}
 use Rattle.raw_token.specs.Pattern.{int, exponent, is_e}
-use Rattle.raw_token.proofs.Steps.{hit_inside, seq_hit, seq_miss, one_more}
+use Rattle.raw_token.proofs.Steps.{hit_inside, seq_hit, seq_miss, misses, one_more, none_more}
 use Rattle.raw_token.proofs.length.exponent_len.Goals as goal
 
-pub overflow_add-at : goal.overflow_add-at
-overflow_add-at c =
-    let a = c.args in
-    omega (arith, hit_inside is_e a.s.now a.at refl (ap is_e (sym c.byte-b.ensures) ∙ c.if-b.true))
-
-pub returns-then-b : goal.returns-then-b
+pub returns-then-not-is_letter_e : goal.returns-then-not-is_letter_e
 unfolding exponent
-returns-then-b c =
+returns-then-not-is_letter_e c =
     let a = c.args in
-    let s = a.s.now in
-    let h = ap is_e (sym c.byte-b.ensures) ∙ c.if-b.true in
-    one_more exponent int s a.at _ _ (hit_inside is_e s a.at refl h)
-    (seq_hit is_e int s a.at refl h) c.int_len.ensures c.behind.ensures
+    let h = ap is_e (sym c.byte.ensures) ∙ sym c.is_letter_e.ensures ∙ c.if-not-is_letter_e.true in
+    misses exponent a.s.now a.at (seq_miss is_e int a.s.now a.at h)
 
-pub returns-else-b : goal.returns-else-b
+pub returns-in_err-int_len : goal.returns-in_err-int_len
 unfolding exponent
-returns-else-b c =
+returns-in_err-int_len c =
     let a = c.args in
-    let h = ap is_e (sym c.byte-b.ensures) ∙ c.if-b.false in
-    record { is = sym (seq_miss is_e int a.s.now a.at h); within = search rules }
+    let h = ap is_e (sym c.byte.ensures) ∙ sym c.is_letter_e.ensures ∙ c.if-not-is_letter_e.false in
+    rw c.from_residual.ensures (none_more exponent a.s.now a.at int (seq_hit is_e int a.s.now a.at refl h) c.in_err-int_len.ensures)
+
+pub returns : goal.returns
+unfolding exponent
+returns c =
+    let a = c.args in
+    let h = ap is_e (sym c.byte.ensures) ∙ sym c.is_letter_e.ensures ∙ c.if-not-is_letter_e.false in
+    one_more exponent a.s.now a.at int _ (hit_inside is_e a.s.now a.at refl h) (seq_hit is_e int a.s.now a.at refl h) c.in_ok-int_len.ensures

@@ -1,29 +1,28 @@
 -- `raw_token::length::int_len` meets its contract: the sign decides.
-use native.Mathlib.Omega.{arith}
 use mathlib.Core.Path.{refl, sym, ap, ◌∙◌}
 use Rattle.source.specs.Bytes.{run, digit}
 use Rattle.raw_token.specs.Pattern.{int, is_sign_lem}
-use Rattle.raw_token.proofs.Steps.{hit_inside, maybe_hit, maybe_miss, one_more}
+use Rattle.raw_token.proofs.Steps.{hit_inside, maybe_hit, maybe_miss, one_more, none_more}
 use Rattle.raw_token.proofs.length.int_len.Goals as goal
 
-pub overflow_add-at : goal.overflow_add-at
-overflow_add-at c =
-    let a = c.args in
-    omega (arith, hit_inside is_sign_lem a.s.now a.at refl (ap is_sign_lem (sym c.byte-b.ensures) ∙ c.if-b.true))
-
-pub returns-then-b : goal.returns-then-b
+pub returns-then-not-is_sign : goal.returns-then-not-is_sign
 unfolding int
-returns-then-b c =
+returns-then-not-is_sign c =
     let a = c.args in
-    let s = a.s.now in
-    let h = ap is_sign_lem (sym c.byte-b.ensures) ∙ c.if-b.true in
-    one_more int (run digit) s a.at _ _ (hit_inside is_sign_lem s a.at refl h)
-    (maybe_hit is_sign_lem (run digit) s a.at refl h) c.digits.ensures c.behind.ensures
+    let h = ap is_sign_lem (sym c.byte.ensures) ∙ sym c.is_sign.ensures ∙ c.if-not-is_sign.true in
+    let d = c.digits.ensures in
+    record { is = rw (maybe_miss is_sign_lem (run digit) a.s.now a.at h) d.is; within = d.within }
 
-pub returns-else-b : goal.returns-else-b
+pub returns-in_err-digits : goal.returns-in_err-digits
 unfolding int
-returns-else-b c =
+returns-in_err-digits c =
     let a = c.args in
-    let h = ap is_sign_lem (sym c.byte-b.ensures) ∙ c.if-b.false in
-    let d = c.digits-else-b.ensures in
-    record { is = d.is ∙ sym (maybe_miss is_sign_lem (run digit) a.s.now a.at h); within = d.within }
+    let h = ap is_sign_lem (sym c.byte.ensures) ∙ sym c.is_sign.ensures ∙ c.if-not-is_sign.false in
+    rw c.from_residual.ensures (none_more int a.s.now a.at (run digit) (maybe_hit is_sign_lem (run digit) a.s.now a.at refl h) c.in_err-digits.ensures)
+
+pub returns : goal.returns
+unfolding int
+returns c =
+    let a = c.args in
+    let h = ap is_sign_lem (sym c.byte.ensures) ∙ sym c.is_sign.ensures ∙ c.if-not-is_sign.false in
+    one_more int a.s.now a.at (run digit) _ (hit_inside is_sign_lem a.s.now a.at refl h) (maybe_hit is_sign_lem (run digit) a.s.now a.at refl h) c.in_ok-digits.ensures

@@ -1,36 +1,35 @@
 use borrow.Author.Rules.{rules}
-use mathlib.Core.Path.{sym, ◌∙◌}
-use Rattle.raw_token.proofs.Steps.{string_open, body_end, body_quote, body_plain, body_feed, body_escape, grow, close, open_end}
+use mathlib.Core.Path.{◌∙◌}
+use Rattle.raw_token.specs.Pattern.{string}
+use Rattle.raw_token.proofs.Steps.{matches, misses, string_open, body_end, body_quote, body_next, escaped_feed, escaped_next, behind_none, grow, close}
 use Rattle.raw_token.proofs.length.string_len.Goals as goal
+use Rattle.raw_token.proofs.length.string_len.Goals.{then-escaped+else-b-eq10, else-escaped+else-b-quote}
 
 pub loop-i-init : goal.loop-i-init
-loop-i-init c = (search rules, string_open c.args.s.now c.args.at c.requires.0 c.requires.1)
+loop-i-init c = string_open c.args.s.now c.args.at c.requires.0 c.requires.1
 
-pub returns-then-b-q : goal.returns-then-b-q
-returns-then-b-q c =
+pub returns-then-b-eq10 : goal.returns-then-b-eq10
+returns-then-b-eq10 c =
     let s = c.args.s.now in
-    let e = body_quote _ s c.loop-i.i c.loop-i-test.true c.if-b-q.true in
-    record { is = close _ _ c.args.at _ (search rules) c.loop-i.invariant.1 e; within = search rules }
+    let l = c.loop-i in
+    misses string s c.args.at (rw c.if-escaped.true at l.invariant ∙ behind_none _ _ (escaped_feed _ s l.i c.loop-i-test.true c.if-b-eq10.true))
 
-pub returns-then-x-eq10 : goal.returns-then-x-eq10
-returns-then-x-eq10 c =
+pub returns-then-b-quote : goal.returns-then-b-quote
+returns-then-b-quote c =
     let s = c.args.s.now in
-    let e = body_feed _ s c.loop-i.i c.loop-i-test.true c.if-b-q.false c.if-b-eq92.true (sym c.byte-x.ensures ∙ c.if-x-eq10.true) in
-    record { is = open_end _ _ _ c.loop-i.invariant.1 e; within = search rules }
-
-pub loop-i-preserved-then-b-eq92 : goal.loop-i-preserved-then-b-eq92
-loop-i-preserved-then-b-eq92 c =
-    let s = c.args.s.now in
-    let e = body_escape _ s c.loop-i.i c.loop-i-test.true c.if-b-q.false c.if-b-eq92.true (λ x. c.if-x-eq10.false (c.byte-x.ensures ∙ x)) in
-    (search rules, grow _ _ 2 c.args.at _ _ (search rules) c.loop-i.invariant.1 e)
+    let l = c.loop-i in
+    matches string s c.args.at _ (close _ l.i c.args.at _ (search rules) (rw c.if-escaped.false at l.invariant) (body_quote _ s l.i c.loop-i-test.true c.if-b-quote.true)) (search rules) (search rules)
 
 pub loop-i-preserved : goal.loop-i-preserved
 loop-i-preserved c =
     let s = c.args.s.now in
-    let e = body_plain _ s c.loop-i.i c.loop-i-test.true c.if-b-q.false c.if-b-eq92.false in
-    (search rules, grow _ _ 1 c.args.at _ _ (search rules) c.loop-i.invariant.1 e)
+    let l = c.loop-i in
+    elim c.if-escaped.branch [
+      | then-escaped+else-b-eq10 w ↦ rw w.escaped-is (grow _ l.i c.args.at _ _ (search rules) (rw w.if-escaped.true at l.invariant) (escaped_next _ s l.i c.loop-i-test.true w.if-b-eq10.false))
+      | else-escaped+else-b-quote w ↦ rw w.escaped-is (grow _ l.i c.args.at _ _ (search rules) (rw w.if-escaped.false at l.invariant) (body_next _ s l.i c.loop-i-test.true w.if-b-quote.false))
+    ]
 
 pub returns : goal.returns
 returns c =
-    let s = c.args.s.now in
-    record { is = open_end _ _ _ c.loop-i.invariant.1 (body_end _ s c.loop-i.i c.loop-i-test.false); within = search rules }
+    let l = c.loop-i in
+    misses string c.args.s.now c.args.at (l.invariant ∙ behind_none _ _ (body_end _ c.args.s.now l.i l.escaped c.loop-i-test.false))

@@ -5,8 +5,8 @@ use lib.ListN.{length, drop}
 use Rattle.raw_token.specs.Pattern.{continues_name, many}
 use Rattle.raw_token.proofs.word.name_end.Given as goal
 
-abbrev pub invariant-loop-i : goal.invariant-loop-i
-invariant-loop-i l = l.at + many continues_name (drop l.at l.s) ≡ l.i + many continues_name (drop l.i l.s)
+abbrev pub invariant-loop-n : goal.invariant-loop-n
+invariant-loop-n l = l.at + many continues_name (drop l.at l.s) ≡ l.i + many continues_name (drop l.i l.s)
 
-abbrev pub decreases-loop-i : goal.decreases-loop-i
-decreases-loop-i l = length l.s - l.i
+abbrev pub decreases-loop-n : goal.decreases-loop-n
+decreases-loop-n l = length l.s - l.i

@@ -1,39 +1,40 @@
 use borrow.Author.Rules.{rules}
-use mathlib.Core.Path.{refl, sym, ◌∙◌}
-use Rattle.spacing.specs.Gap.{gap_end_lem}
-use Rattle.spacing.proofs.Gaps.{in_feed, in_more, out_blank, out_hash, out_other, gap_past}
+use mathlib.Core.Path.{◌≡◌, sym, ◌∙◌}
+use mathlib.Core.Bool.{true, false}
+use Rattle.std.proofs.Common.{arith, length, get_or}
+use Rattle.std.proofs.lemmas.Grind.{common_steps}
+use Rattle.spacing.specs.Gap.{is_blank, gap_end_lem}
+use Rattle.spacing.proofs.Gaps.{gap_blank, gap_comment, gap_other, gap_past}
 use Rattle.spacing.proofs.gap.gap_end.Goals as goal
 
-pub loop-i-init : goal.loop-i-init
+pub returns-in-35 : goal.returns-in-35
 unfolding gap_end_lem
-loop-i-init c = (search rules, c.requires, refl)
-
-pub returns-then-b-eq10 : goal.returns-then-b-eq10
-returns-then-b-eq10 c =
+returns-in-35 c =
     let l = c.loop-i in
-    (sym (l.invariant.2 ∙ in_feed c.args.s.now l.i c.loop-i-test.true l.comment c.if-comment.true c.if-b-eq10.true), search rules, search rules)
+    let e = c.comment_end.ensures in
+    (e.0 ∙ sym (l.invariant ∙ gap_comment c.args.s.now l.i c.loop-i-test.true c.in-35.is), e.1, omega (arith, l.auto.i, e.2))
 
-pub loop-i-preserved-then-comment : goal.loop-i-preserved-then-comment
-loop-i-preserved-then-comment c =
+pub returns-in_default : goal.returns-in_default
+unfolding gap_end_lem
+returns-in_default c =
+    let s = c.args.s.now in
     let l = c.loop-i in
-    (search rules, search rules, l.invariant.2 ∙ in_more c.args.s.now l.i c.loop-i-test.true l.comment c.if-comment.true c.if-b-eq10.false)
-
-pub loop-i-preserved-then-b : goal.loop-i-preserved-then-b
-loop-i-preserved-then-b c =
-    let l = c.loop-i in
-    (search rules, search rules, l.invariant.2 ∙ out_blank c.args.s.now l.i c.loop-i-test.true l.comment c.if-comment.false c.if-b.true)
+    let h : is_blank (get_or s l.i 0) ≡ false = grind (arith, common_steps) in
+    let k : get_or s l.i 0 ≡ 35 → ⊥ = search rules in
+    (sym (l.invariant ∙ gap_other s l.i c.loop-i-test.true h k), search rules, search rules)
 
 pub loop-i-preserved : goal.loop-i-preserved
+unfolding gap_end_lem
 loop-i-preserved c =
+    let s = c.args.s.now in
     let l = c.loop-i in
-    (search rules, search rules, l.invariant.2 ∙ out_hash c.args.s.now l.i c.loop-i-test.true l.comment c.if-comment.false c.if-b.false c.if-b-eq35.true)
-
-pub returns-else-b-eq35 : goal.returns-else-b-eq35
-returns-else-b-eq35 c =
-    let l = c.loop-i in
-    (sym (l.invariant.2 ∙ out_other c.args.s.now l.i c.loop-i-test.true l.comment c.if-comment.false c.if-b.false c.if-b-eq35.false), search rules, search rules)
+    let h : is_blank (get_or s l.i 0) ≡ true = grind (arith, common_steps) in
+    l.invariant ∙ gap_blank s l.i c.loop-i-test.true h
 
 pub returns : goal.returns
+unfolding gap_end_lem
 returns c =
+    let s = c.args.s.now in
     let l = c.loop-i in
-    (sym (l.invariant.2 ∙ gap_past c.args.s.now l.i l.comment c.loop-i-test.false), search rules, search rules)
+    let end : l.i ≡ length s = omega (arith, l.auto.i-end c.requires) in
+    (sym end ∙ sym (l.invariant ∙ gap_past s l.i c.loop-i-test.false), search rules, c.requires)

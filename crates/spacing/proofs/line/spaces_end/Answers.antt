@@ -1,26 +1,26 @@
-use borrow.Author.Rules.{rules}
-use borrow.Author.Tests.{eq-eqb, ne_eqb}
-use mathlib.Core.Path.{refl, sym, ◌∙◌}
-use Rattle.source.proofs.Lists.{run_more, run_stop, run_end}
+-- `spacing::line::spaces_end` meets its contract: it asks for the first byte that is no space.
+use Rattle.std.proofs.Common.{◌≡◌, ℕ, Bool, true, false, not, refl, ◌∙◌, arith, rules, tests}
+use lib.ListN.{drop}
+use Rattle.std.proofs.lemmas.Iterator.{YieldsList-from_slice}
+use Rattle.std.proofs.lemmas.Iterator.Search.{position_from_yields_List}
 use Rattle.spacing.specs.Indentation.{is_space}
+use Rattle.spacing.proofs.Gaps.{rest_is, run_found}
 use Rattle.spacing.proofs.line.spaces_end.Goals as goal
 
-pub loop-i-init : goal.loop-i-init
-loop-i-init c = (search rules, c.requires, refl)
+abbrev not_space : ℕ → Bool
+not_space b = not (is_space b)
 
-pub loop-i-preserved : goal.loop-i-preserved
-loop-i-preserved c =
-    let l = c.loop-i in
-    let s = c.args.s.now in
-    (search rules, search rules, l.invariant.2 ∙ run_more is_space s l.i c.loop-i-test.true (eq-eqb _ 32 c.if-s-i-eq32.true))
-
-pub returns-else-s-i-eq32 : goal.returns-else-s-i-eq32
-returns-else-s-i-eq32 c =
-    let l = c.loop-i in
-    let s = c.args.s.now in
-    (sym (l.invariant.2 ∙ run_stop is_space s l.i c.loop-i-test.true (ne_eqb _ 32 c.if-s-i-eq32.false)), search rules, search rules)
+space : (b : ℕ) → is_space b ≡ not (not_space b)
+space b = go (is_space b)
+  where
+    go : (t : Bool) → t ≡ not (not t)
+    go true = refl
+    go false = refl
 
 pub returns : goal.returns
 returns c =
-    let l = c.loop-i in
-    (sym (l.invariant.2 ∙ run_end is_space c.args.s.now l.i c.loop-i-test.false), search rules, search rules)
+    let s = c.args.s.now in
+    let at = c.args.at in
+    let found = position_from_yields_List not_space _ _ c.position.result c.position.ensures.ran (YieldsList-from_slice (drop at s) (c.iter.ensures.rest ∙ rest_is s at)) (λ x b q k. search (rules, tests)) in
+    let r = run_found not_space is_space space s at c.unwrap_or.result c.position.result c.requires c.unwrap_or.ensures found in
+    (r.0, omega arith, r.1)
