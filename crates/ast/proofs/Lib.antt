@@ -1,4 +1,3 @@
-pub mod Operators
 pub mod Fields
 pub mod Tabulate
 pub mod Nodes

@@ -10,9 +10,11 @@ ghost use Rattle.ast.specs.Literal.{leaf, leaf_of_lem};
 ghost use Rattle.ast.specs.Mask.{node_fields_lem};
 
 use literal::Literal;
+use numbers::halves::Halves;
 use token::{NodeNumber, Place};
 
-// "Kinds: 1 Program .. 34 Lambda" (01, Tree). specs/Kind.antt has the same numbers for the contracts.
+// "Kinds: 1 Program .. 34 Lambda" (01, Tree). specs/Kind.antt has the same numbers for the contracts. They are numbers and no enum, since a kind is a word of
+// the tree, which C reads.
 pub const PROGRAM: u32 = 1;
 
 pub const IF: u32 = 2;
@@ -86,69 +88,9 @@ pub const NONE_NODE: u32 = 4294967295;
 
 // ---- records ----
 
-// Where node n starts in the source.
-pub fn start_of(tree: &[u32], n: NodeNumber) -> Place
-    requires { 8 * n.0 + 16 ≤ length tree.now }
-    ensures { result.0 ≡ (node_at tree.now n.0).start }
-{
-    let k = n.0;
-    let i = 8 * (k as usize) + 8;
-    Place(tree[i + 1])
-}
-
-// Writes the eight words of node n, which is in no list yet.
-pub fn put_node(
-    tree: &mut [u32],
-    n: NodeNumber,
-    kind: u32,
-    start: Place,
-    end: Place,
-    p: u32,
-    q: u32,
-    r: u32,
-    s: u32,
-)
-    requires { 8 * n.0 + 16 ≤ length tree.old }
-    ensures { tree.new ≡ put_node_lem tree.old n.0 (made kind start.0 end.0 p q r s) }
-{
-    let k = n.0;
-    let i = 8 * (k as usize) + 8;
-    tree[i] = kind;
-    tree[i + 1] = start.0;
-    tree[i + 2] = end.0;
-    tree[i + 3] = NONE_NODE;
-    tree[i + 4] = p;
-    tree[i + 5] = q;
-    tree[i + 6] = r;
-    tree[i + 7] = s;
-}
-
-// Gives node n another span.
-pub fn set_span(tree: &mut [u32], n: NodeNumber, start: Place, end: Place)
-    requires { 8 * n.0 + 16 ≤ length tree.old }
-    ensures { tree.new ≡ set_span_lem tree.old n.0 start.0 end.0 }
-{
-    let k = n.0;
-    let i = 8 * (k as usize) + 8;
-    tree[i + 1] = start.0;
-    tree[i + 2] = end.0;
-}
-
-// Links node n to the next of its list.
-pub fn set_next(tree: &mut [u32], n: NodeNumber, next: NodeNumber)
-    requires { 8 * n.0 + 16 ≤ length tree.old }
-    ensures { tree.new ≡ set_next_lem tree.old n.0 next.0 }
-{
-    let k = n.0;
-    let i = 8 * (k as usize) + 8;
-    tree[i + 3] = next.0;
-}
-
-// ---- literals ----
-
-// The kind of a literal's node, and its four fields.
+// What a node holds besides its place in the source and in its list: its kind, and the four fields that the kind gives a meaning.
 #[derive(Clone, Copy)]
-pub struct Leaf {
+pub struct Content {
     pub kind: u32,
     pub p: u32,
     pub q: u32,
@@ -156,34 +98,91 @@ pub struct Leaf {
     pub s: u32,
 }
 
-fn leaf_with(kind: u32, p: u32, q: u32) -> Leaf
-    ensures { result ≡ leaf kind p q }
-{
-    Leaf {
-        kind: kind,
-        p: p,
-        q: q,
-        r: 0,
-        s: 0,
+impl Content {
+    // With no use for r and s: "Unused words are 0" (01, Tree).
+    pub fn of(kind: u32, p: u32, q: u32) -> Content
+        ensures { result ≡ leaf kind p q }
+    {
+        Content {
+            kind,
+            p,
+            q,
+            r: 0,
+            s: 0,
+        }
     }
 }
 
+// The first word of node n: "node offset 8" (01, Tree).
+fn word_of(n: NodeNumber) -> usize
+    ensures { result ≡ 8 * n.0 + 8 }
+{
+    8 * (n.0 as usize) + 8
+}
+
+// Where node n starts in the source.
+pub fn start_of(tree: &[u32], n: NodeNumber) -> Place
+    requires { 8 * n.0 + 16 ≤ length tree.now }
+    ensures { result.0 ≡ (node_at tree.now n.0).start }
+{
+    Place(tree[word_of(n) + 1])
+}
+
+// Writes the eight words of node n, which is in no list yet. (Stores and no copy_from_slice, which goes by way of the stack: about 20 instructions more.)
+#[tactic(auto, unfolding(crate::specs::Words::put_node_lem))]
+pub fn put_node(tree: &mut [u32], n: NodeNumber, start: Place, end: Place, content: Content)
+    requires { 8 * n.0 + 16 ≤ length tree.old }
+    ensures { tree.new ≡ put_node_lem tree.old n.0 (made content.kind start.0 end.0 content.p content.q content.r content.s) }
+{
+    let i = word_of(n);
+    tree[i] = content.kind;
+    tree[i + 1] = start.0;
+    tree[i + 2] = end.0;
+    tree[i + 3] = NONE_NODE;
+    tree[i + 4] = content.p;
+    tree[i + 5] = content.q;
+    tree[i + 6] = content.r;
+    tree[i + 7] = content.s;
+}
+
+// Gives node n another span.
+#[tactic(auto, unfolding(crate::specs::Words::set_span_lem))]
+pub fn set_span(tree: &mut [u32], n: NodeNumber, start: Place, end: Place)
+    requires { 8 * n.0 + 16 ≤ length tree.old }
+    ensures { tree.new ≡ set_span_lem tree.old n.0 start.0 end.0 }
+{
+    let i = word_of(n);
+    tree[i + 1] = start.0;
+    tree[i + 2] = end.0;
+}
+
+// Links node n to the next of its list.
+#[tactic(auto, unfolding(crate::specs::Words::set_next_lem))]
+pub fn set_next(tree: &mut [u32], n: NodeNumber, next: NodeNumber)
+    requires { 8 * n.0 + 16 ≤ length tree.old }
+    ensures { tree.new ≡ set_next_lem tree.old n.0 next.0 }
+{
+    tree[word_of(n) + 3] = next.0;
+}
+
+// ---- literals ----
+
 // The node of a literal whose token stands from start to end: a Float keeps these two places (02, change 3). No token's Float is a NaN, which has more than
 // one pattern of bits.
-pub fn leaf_of(l: Literal, start: Place, end: Place) -> Leaf
+pub fn leaf_of(l: Literal, start: Place, end: Place) -> Content
     requires { T (has_bits l) }
     ensures { result ≡ leaf_of_lem start.0 end.0 l }
 {
     match l {
-        Literal::Bool(b) => leaf_with(BOOL, b as u32, 0),
+        Literal::Bool(b) => Content::of(BOOL, b as u32, 0),
         Literal::Int(n) => {
-            let h = numbers::halves::of_i64(n);
-            leaf_with(INT, h.low, h.high)
+            let h = Halves::from(n);
+            Content::of(INT, h.low, h.high)
         }
-        Literal::String(at, len) => leaf_with(STRING, at, len),
+        Literal::String(at, len) => Content::of(STRING, at, len),
         Literal::Float(x) => {
-            let h = numbers::halves::of_f64(x);
-            Leaf {
+            let h = Halves::of_f64(x);
+            Content {
                 kind: FLOAT,
                 p: h.low,
                 q: h.high,
@@ -191,13 +190,14 @@ pub fn leaf_of(l: Literal, start: Place, end: Place) -> Leaf
                 s: end.0,
             }
         }
-        Literal::None => leaf_with(NONE, 0, 0),
+        Literal::None => Content::of(NONE, 0, 0),
     }
 }
 
 // ---- operators ----
 
 // The operator of a sign's token, UnaryOp in enum order.
+#[tactic(auto, unfolding(crate::specs::Operator::unary_op_lem))]
 pub fn unary_op(code: u32) -> u32
     ensures { result ≡ unary_op_lem code }
 {
@@ -209,6 +209,7 @@ pub fn unary_op(code: u32) -> u32
 }
 
 // The operator of a token between two operands, BinaryOp in enum order.
+#[tactic(auto, unfolding(crate::specs::Operator::binary_op_lem))]
 pub fn binary_op(code: u32) -> u32
     ensures { result ≡ binary_op_lem code }
 {
@@ -233,34 +234,18 @@ pub fn binary_op(code: u32) -> u32
 // ---- fields ----
 
 // Which of p, q, r and s hold node numbers: 1, 2, 4 and 8, as a sum.
+#[tactic(auto, unfolding(crate::specs::Mask::node_fields_lem))]
 pub fn node_fields(kind: u32) -> u32
     ensures { result ≡ node_fields_lem kind }
 {
     match kind {
-        PROGRAM => 1,
-        IF => 15,
-        WHILE => 3,
-        FOR => 12,
-        DEF => 12,
-        RETURN => 1,
-        ASSIGN => 3,
-        CLASS => 4,
-        EXPR => 1,
-        METHOD => 12,
-        ELIF => 3,
-        ELSE => 1,
-        PAIR => 3,
+        PROGRAM | RETURN | EXPR | ELSE | ATTRIBUTE | LIST | DICT | TUPLE | SET | TREE_SET => 1,
         UNARY => 2,
+        WHILE | ASSIGN | ELIF | PAIR | CALL | INDEX | LAMBDA => 3,
+        CLASS => 4,
         BINARY => 6,
-        CALL => 3,
-        ATTRIBUTE => 1,
-        LIST => 1,
-        DICT => 1,
-        TUPLE => 1,
-        SET => 1,
-        TREE_SET => 1,
-        INDEX => 3,
-        LAMBDA => 3,
+        FOR | DEF | METHOD => 12,
+        IF => 15,
         _ => 0,
     }
 }

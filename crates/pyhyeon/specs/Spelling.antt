@@ -1,7 +1,7 @@
 -- What is said of the Floats of an accepted script: "A Float record carries in r and s the start and end of its token" (02, change 3), and p and q are the
 -- value of the bytes that stand there. It follows from the definitions (proofs/Spelling.antt), and is said here for those who read a tree.
 -- Assumes nothing.
-use Rattle.std.specs.Prelude.{ℕ, ◌≡◌, cond, eqb, get_or, Float}
+use Rattle.std.specs.Prelude.{ℕ, ◌≡◌, cond, eqb, get_or, Float, Some}
 use mathlib.Core.List.{List, [], ◌∷◌, flat_map}
 use Rattle.std.specs.Float.{binary64}
 use Rattle.std.specs.Float.Ieee.{to_bits}
@@ -10,7 +10,6 @@ use Rattle.token.specs.Code as code
 use Rattle.tokens.specs.Token.{Token}
 use Rattle.numbers.specs.Bits.{halves_of}
 use Rattle.numbers.specs.Decimal.{decimal_of}
-use Rattle.numbers.specs.declared.decimal.Decimal.TheVariants.{Value}
 use Rattle.ast.specs.Kind as kind
 use Rattle.ast.specs.Node.{Node, blank}
 
@@ -18,7 +17,7 @@ use Rattle.ast.specs.Node.{Node, blank}
 -- tokens), and p and q are its bits ("p low, q high half of the 64 bits", 01, Tree).
 pub record Spelled (source : List ℕ) (p q r s : ℕ) : Type 0 where
   pub value : Float
-  pub reads : decimal_of (part source r s) ≡ Value value
+  pub reads : decimal_of (part source r s) ≡ Some value
   pub low : p ≡ (halves_of (to_bits binary64 value)).low
   pub high : q ≡ (halves_of (to_bits binary64 value)).high
 

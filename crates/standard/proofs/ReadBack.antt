@@ -8,9 +8,9 @@ use native.Mathlib.Omega.{arith}
 use borrow.Author.Tests.{eqb-true}
 use lib.Dec.{T, eqb}
 use lib.ListN.{length}
+use Rattle.std.specs.Prelude.{None}
 use Rattle.source.proofs.Bools.{and_left}
 use Rattle.utf8.specs.Table.{utf8_error_lem}
-use Rattle.utf8.specs.declared.Utf8.TheVariants.{WellFormed}
 use Rattle.grammar.specs.Sets.{mem}
 use Rattle.token.specs.Code as token
 use Rattle.tokens.specs.Token.{Token}
@@ -50,7 +50,7 @@ use Rattle.standard.proofs.Top.{Rewritten, script_stands}
 -- The standard text of what the tree of these nodes says: where the source is well-formed UTF-8, so is the text; it is scanned, and read as such a script;
 -- and "writing that again gives the same text", of which no block is empty either.
 pub record ReadBack (source text : List ℕ) {toks : List Token} {ns : List Node} (of : TreeOf source toks ns) : Type 0 where
-  pub well_formed : utf8_error_lem source ≡ WellFormed → utf8_error_lem (standard_text (said source text of.tree)) ≡ WellFormed
+  pub well_formed : utf8_error_lem source ≡ None → utf8_error_lem (standard_text (said source text of.tree)) ≡ None
   pub tokens : List Token
   pub strings : List ℕ
   pub scans : token_list (standard_text (said source text of.tree)) ≡ scanned tokens strings
@@ -104,7 +104,7 @@ module _ (s : List ℕ) (ts : List Token) (bs : List ℕ) (e : token_list s ≡ 
 
   -- ---- and is well-formed
 
-  module _ (u : utf8_error_lem s ≡ WellFormed) where
+  module _ (u : utf8_error_lem s ≡ None) where
     bytes_well : (i : ℕ) → i < length ts → WellBytes s (token_no i)
     bytes_well i l = each_at (tokens_well s ts bs u e) i (tok.token 0 0 0 L.None) l
 

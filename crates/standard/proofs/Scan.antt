@@ -7,17 +7,13 @@ use Prim.Native.Nat.{ℕ, zero, suc, ◌<◌}
 use native.Mathlib.Omega.{arith}
 use lib.Dec.{T}
 use lib.ListN.{length, get_or}
+use Rattle.std.specs.Prelude.{Float, ℤ, Option, Some, None}
 use Rattle.grammar.specs.Sets.{mem}
-use Rattle.numbers.specs.declared.decimal.Decimal.{Decimal}
-use Rattle.numbers.specs.declared.decimal.Decimal.TheVariants as D
-use Rattle.numbers.specs.declared.integer.Integer.{Integer}
-use Rattle.numbers.specs.declared.integer.Integer.TheVariants as I
 use Rattle.numbers.specs.Decimal.{decimal_of}
 use Rattle.numbers.specs.Integer.{integer_of}
 use Rattle.literal.specs.Literal.{of_integer, of_decimal, lex_integer_lem, lex_float_lem, lex_string_lem}
 use Rattle.literal.specs.declared.Literal.{Literal}
 use Rattle.literal.specs.declared.Literal.TheVariants as L
-use Rattle.literal.specs.declared.Lexed.TheVariants.{Value}
 use Rattle.tokens.specs.Token.{Token}
 use Rattle.tokens.specs.Token as tok
 use Rattle.lexer.specs.Value.{value_of}
@@ -34,26 +30,26 @@ use Rattle.standard.proofs.Erasing.{Plain, sort_of}
 
 -- the value of a token, by its number
 valued_at : {s : List ℕ} {used : ℕ} {ts : List Token} {bs : List ℕ} → Valued s used ts bs → (d : Token) (i : ℕ) → i < length ts →
-    (used' : ℕ) × (value_of (get_or ts i d).code (bytes_of s (get_or ts i d)) used' ≡ Value (get_or ts i d).literal)
+    (used' : ℕ) × (value_of (get_or ts i d).code (bytes_of s (get_or ts i d)) used' ≡ Some (get_or ts i d).literal)
 valued_at Valued.none d i h = absurd (omega arith)
 valued_at (Valued.more {used} e v) d zero h = (used, e)
 valued_at (Valued.more e v) d (suc i) h = valued_at v d i (omega arith)
 
-value_sort : (l : List ℕ) (used : ℕ) (v : Literal) (c : ℕ) → T (mem c literals) → value_of c l used ≡ Value v → literal_of_lem c ≡ sort_of v
+value_sort : (l : List ℕ) (used : ℕ) (v : Literal) (c : ℕ) → T (mem c literals) → value_of c l used ≡ Some v → literal_of_lem c ≡ sort_of v
 unfolding value_of literal_of_lem lex_integer_lem lex_float_lem lex_string_lem
-value_sort l used v c m e = each (λ c. value_of c l used ≡ Value v → literal_of_lem c ≡ sort_of v) c literals
+value_sort l used v c m e = each (λ c. value_of c l used ≡ Some v → literal_of_lem c ≡ sort_of v) c literals
     ((λ e. int (integer_of l) e), ((λ e. is _ e), ((λ e. is _ e), ((λ e. float (decimal_of l) e), ((λ e. is _ e), tt))))) m e
   where
-    is : (w : Literal) → Value w ≡ Value v → sort_of w ≡ sort_of v
+    is : (w : Literal) → Some w ≡ Some v → sort_of w ≡ sort_of v
     is w e = let f : w ≡ v = cc in ap sort_of f
 
-    int : (o : Integer) → of_integer o ≡ Value v → to.int ≡ sort_of v
-    int (I.Value n) e = is (L.Int n) e
-    int I.OutOfRange e = let z : ◌≡◌ {A = ℕ} 0 1 = cc in absurd (omega arith)
+    int : (o : Option ℤ) → of_integer o ≡ Some v → to.int ≡ sort_of v
+    int (Some n) e = is (L.Int n) e
+    int None e = let z : ◌≡◌ {A = ℕ} 0 1 = cc in absurd (omega arith)
 
-    float : (o : Decimal) → of_decimal o ≡ Value v → to.float ≡ sort_of v
-    float (D.Value x) e = is (L.Float x) e
-    float D.NotAdmitted e = let z : ◌≡◌ {A = ℕ} 0 1 = cc in absurd (omega arith)
+    float : (o : Option Float) → of_decimal o ≡ Some v → to.float ≡ sort_of v
+    float (Some x) e = is (L.Float x) e
+    float None e = let z : ◌≡◌ {A = ℕ} 0 1 = cc in absurd (omega arith)
 
 pub plain_tokens : (source : List ℕ) (toks : List Token) (bs : List ℕ) → token_list source ≡ scanned toks bs → Plain source toks
 plain_tokens source toks bs e = record {

@@ -11,6 +11,7 @@ use lib.Dec.{T, eqb}
 use lib.IntN.{ℤ}
 use lib.ListN.{length, get_or, drop, length-take, length-drop}
 use lib.Seq.{get_or-drop, get_or-take, drop-append_seam, take_at}
+use Rattle.std.specs.Prelude.{Float, Option, Some, None}
 use Rattle.grammar.specs.Sets.{mem}
 use Rattle.source.specs.Bytes.{part}
 use Rattle.token.specs.Code as token
@@ -18,13 +19,10 @@ use Rattle.tokens.specs.Token.{Token}
 use Rattle.numbers.specs.Integer.{in_i64}
 use Rattle.numbers.proofs.Halved.{halves_int}
 use Rattle.numbers.specs.Decimal.{decimal_of}
-use Rattle.numbers.specs.declared.decimal.Decimal.{Decimal}
-use Rattle.numbers.specs.declared.decimal.Decimal.TheVariants as D
 use Rattle.strings.specs.Decoded.{decoded}
 use Rattle.literal.specs.Literal.{of_decimal, lex_float_lem, lex_string_lem, unquoted}
 use Rattle.literal.specs.declared.Literal.{Literal}
 use Rattle.literal.specs.declared.Literal.TheVariants as L
-use Rattle.literal.specs.declared.Lexed.TheVariants.{Value}
 use Rattle.lexer.specs.Value.{value_of}
 use Rattle.lexer.proofs.Properties.{Spanned, bytes_of}
 use Rattle.ast.specs.Literal.{leaf_of_lem}
@@ -116,7 +114,7 @@ module _ (s text : List ℕ) (t : Token) (o : Origin s t) (p : Spanned (length s
       go z i = rw (halves_int z i) (record { code = token.Int; literal = λ used. L.Int z; text = []; reads = integer_reads z i; says = λ s' before after at e h. refl })
 
   -- the value of a token of this code
-  value-of : (c : ℕ) → t.code ≡ c → value_of c w o.used ≡ Value t.literal
+  value-of : (c : ℕ) → t.code ≡ c → value_of c w o.used ≡ Some t.literal
   value-of c e = ap (λ (c : ℕ). value_of c w o.used) (sym e) ∙ o.value
 
   bool_spelt : t.code ≡ token.Bool → Said to.bool
@@ -160,8 +158,8 @@ module _ (s text : List ℕ) (t : Token) (o : Origin s t) (p : Spanned (length s
   unfolding load value_of lex_float_lem
   float_spelt c = go (decimal_of w) (value-of token.Float c)
     where
-      go : (d : Decimal) → of_decimal d ≡ Value t.literal → Said to.float
-      go (D.Value x) q =
+      go : (d : Option Float) → of_decimal d ≡ Some t.literal → Said to.float
+      go (Some x) q =
           let l : L.Float x ≡ t.literal = cc in
           rw (valued token.Float c (omega arith), ← l)
           (record {
@@ -171,7 +169,7 @@ module _ (s text : List ℕ) (t : Token) (o : Origin s t) (p : Spanned (length s
             reads = subst (λ (v : Literal). Reads token.Float w (λ used. v) []) (sym l) (float_origin s t o c);
             says = λ s' before after at e h. ap (λ (b : List ℕ). sign token.Float ((leaf_of_lem 0 0 (L.Float x)).p ∷ (leaf_of_lem 0 0 (L.Float x)).q ∷ b)) e;
           })
-      go D.NotAdmitted q = let z : ◌≡◌ {A = ℕ} 0 1 = cc in absurd (omega arith)
+      go None q = let z : ◌≡◌ {A = ℕ} 0 1 = cc in absurd (omega arith)
 
   pub literal_spelt : T (mem t.code literals) → Spelt (literal_text (literal_of_lem t.code) (load s text t)) (sign (literal_code (literal_of_lem t.code)) (load s text t))
   unfolding literal_of_lem

@@ -12,8 +12,8 @@ use borrow.Author.Tests.{leb-true, ltb-true, ne_eqb}
 use Rattle.source.specs.Text.{bytes}
 use Rattle.source.proofs.Bools.{and_left, and_right}
 use Rattle.utf8.specs.Table.{first_ill_formed, utf8_error_lem}
-use Rattle.utf8.specs.declared.Utf8.TheVariants.{WellFormed}
-use Rattle.token.specs.Code.{None}
+use Rattle.std.specs.Prelude.{None}
+use Rattle.token.specs.Code as Code
 use Rattle.raw_token.specs.Table.{Pattern, Entry, table}
 use Rattle.raw_token.specs.Parts.{text_of}
 use Rattle.raw_token.proofs.Laws.{all}
@@ -28,7 +28,7 @@ use Rattle.standard.specs.Text.{word_text, literal_text}
 
 -- as question 5 asks it
 pub record Well (l : List ℕ) : Type 0 where
-  pub holds : utf8_error_lem l ≡ WellFormed
+  pub holds : utf8_error_lem l ≡ None
 
 -- ---- bytes under 128
 
@@ -171,4 +171,4 @@ literal_well Literal.int l h = int_well (int_of (get_or l 0 0) (get_or l 1 0))
 literal_well Literal.bool l h = bool_well (eqb (get_or l 0 0) 1)
 literal_well Literal.string l h = string_well l h
 literal_well Literal.float l h = h
-literal_well Literal.none l h = fixed_well None
+literal_well Literal.none l h = fixed_well Code.None

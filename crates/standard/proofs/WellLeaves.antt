@@ -10,16 +10,12 @@ use lib.Dec.{eqb}
 use lib.ListN.{length, get_or, take}
 use lib.Seq.{take-add}
 use borrow.Author.Tests.{eqb-true}
+use Rattle.std.specs.Prelude.{Float, ℤ, Option, Some, None}
 use Rattle.source.specs.Bytes.{part}
 use Rattle.source.proofs.Bools.{and_left, and_right}
 use Rattle.utf8.specs.Table.{utf8_error_lem}
-use Rattle.utf8.specs.declared.Utf8.TheVariants.{WellFormed}
 use Rattle.token.specs.Code as Code
 use Rattle.tokens.specs.Token.{Token, token}
-use Rattle.numbers.specs.declared.decimal.Decimal.{Decimal}
-use Rattle.numbers.specs.declared.decimal.Decimal.TheVariants as D
-use Rattle.numbers.specs.declared.integer.Integer.{Integer}
-use Rattle.numbers.specs.declared.integer.Integer.TheVariants as I
 use Rattle.numbers.specs.Decimal.{decimal_of}
 use Rattle.numbers.specs.Integer.{integer_of}
 use Rattle.strings.specs.Decoded as strings
@@ -27,9 +23,7 @@ use Rattle.strings.specs.Decoded.{unescape}
 use Rattle.literal.specs.Literal.{of_integer, of_decimal, lex_integer_lem, lex_float_lem, lex_string_lem, unquoted}
 use Rattle.literal.specs.declared.Literal.{Literal}
 use Rattle.literal.specs.declared.Literal.TheVariants as L
-use Rattle.literal.specs.declared.Lexed.TheVariants.{Value}
-use Rattle.raw_token.specs.Table.{token_at_lem}
-use Rattle.raw_token.specs.declared.RawToken.TheVariants.{Found}
+use Rattle.raw_token.specs.Table.{raw_token, token_at_lem}
 use Rattle.raw_token.proofs.Within.{token_within}
 use Rattle.lexer.specs.Value.{value_of}
 use Rattle.lexer.specs.Scan.{scanned, mark, token_list}
@@ -83,24 +77,24 @@ decoded_well : (l : List ℕ) → Well l → Well (strings.decoded l)
 decoded_well l h = rw (decoded_of l h.holds) (characters_decoded (characters l) (whole l h.holds).0)
 
 -- a token with a String's literal is a String
-string_coded : (code : ℕ) (l : List ℕ) (used at n : ℕ) → value_of code l used ≡ Value (L.String at n) → code ≡ Code.String
+string_coded : (code : ℕ) (l : List ℕ) (used at n : ℕ) → value_of code l used ≡ Some (L.String at n) → code ≡ Code.String
 unfolding value_of lex_integer_lem lex_float_lem
 string_coded code l used at n = go (eqb code Code.Bool) (eqb code Code.Int) (eqb code Code.Float) (eqb code Code.String) (integer_of l) (decimal_of l) refl
   where
-    go : (a b c t : Bool) (i : Integer) (x : Decimal) → eqb code Code.String ≡ t
-        → cond a (Value (L.Bool (eqb (get_or l 0 0) 84))) (cond b (of_integer i) (cond c (of_decimal x) (cond t (Value (lex_string_lem l used)) (Value L.None)))) ≡ Value (L.String at n)
+    go : (a b c t : Bool) (i : Option ℤ) (x : Option Float) → eqb code Code.String ≡ t
+        → cond a (Some (L.Bool (eqb (get_or l 0 0) 84))) (cond b (of_integer i) (cond c (of_decimal x) (cond t (Some (lex_string_lem l used)) (Some L.None)))) ≡ Some (L.String at n)
         → code ≡ Code.String
     go true b c t i x f e = let z : ◌≡◌ {A = ℕ} 0 1 = cc in absurd (omega arith)
-    go false true c t (I.Value m) x f e = let z : ◌≡◌ {A = ℕ} 0 1 = cc in absurd (omega arith)
-    go false true c t I.OutOfRange x f e = let z : ◌≡◌ {A = ℕ} 0 1 = cc in absurd (omega arith)
-    go false false true t i (D.Value m) f e = let z : ◌≡◌ {A = ℕ} 0 1 = cc in absurd (omega arith)
-    go false false true t i D.NotAdmitted f e = let z : ◌≡◌ {A = ℕ} 0 1 = cc in absurd (omega arith)
+    go false true c t (Some m) x f e = let z : ◌≡◌ {A = ℕ} 0 1 = cc in absurd (omega arith)
+    go false true c t None x f e = let z : ◌≡◌ {A = ℕ} 0 1 = cc in absurd (omega arith)
+    go false false true t i (Some m) f e = let z : ◌≡◌ {A = ℕ} 0 1 = cc in absurd (omega arith)
+    go false false true t i None f e = let z : ◌≡◌ {A = ℕ} 0 1 = cc in absurd (omega arith)
     go false false false true i x f e = eqb-true code Code.String f
     go false false false false i x f e = let z : ◌≡◌ {A = ℕ} 0 1 = cc in absurd (omega arith)
 
 -- ---- the bytes of a token
 
-token_well : (s : List ℕ) (start code end : ℕ) → utf8_error_lem s ≡ WellFormed → token_at_lem s start ≡ Found code end → Well (part s start end)
+token_well : (s : List ℕ) (start code end : ℕ) → utf8_error_lem s ≡ None → token_at_lem s start ≡ Some (raw_token code end) → Well (part s start end)
 token_well s start code end w e =
     let h = token_within s start code end e in
     let n : end ≡ start + (end - start) = omega arith in
@@ -111,7 +105,7 @@ token_well s start code end w e =
 abbrev pub WellBytes : List ℕ → Token → Type 0
 WellBytes s t = (t.code ≡ Code.Indent → ⊥) → (t.code ≡ Code.Dedent → ⊥) → Well (bytes_of s t)
 
-each_well : {s : List ℕ} {lo hi depth used : ℕ} {ts : List Token} {bs : List ℕ} → utf8_error_lem s ≡ WellFormed → Tokens s lo hi depth used ts bs → Each (WellBytes s) ts
+each_well : {s : List ℕ} {lo hi depth used : ℕ} {ts : List Token} {bs : List ℕ} → utf8_error_lem s ≡ None → Tokens s lo hi depth used ts bs → Each (WellBytes s) ts
 each_well w (indent {start} {end} h k m n t) = more {t = mark Code.Indent start end} (λ a b. absurd (a refl)) (each_well w t)
 each_well w (dedent {start} {end} h k m n t) = more {t = mark Code.Dedent start end} (λ a b. absurd (b refl)) (each_well w t)
 each_well {s} w (raw {start} {code} {end} {v} h k e f t) = more {t = token code start end v} (λ a b. token_well s start code end w e) (each_well w t)
@@ -125,10 +119,10 @@ each_well {s} w (eof h k) = more {t = mark Code.Eof (length s) (length s)} (λ a
 abbrev pub WellString : List ℕ → Token → Type 0
 WellString text t = (at n : ℕ) → t.literal ≡ L.String at n → Well (part text at (at + n))
 
-held_well : (text l : List ℕ) (code used : ℕ) (v : Literal) → value_of code l used ≡ Value v → Held text code l v → (code ≡ Code.String → Well (unquoted l)) → (at n : ℕ) → v ≡ L.String at n → Well (part text at (at + n))
+held_well : (text l : List ℕ) (code used : ℕ) (v : Literal) → value_of code l used ≡ Some v → Held text code l v → (code ≡ Code.String → Well (unquoted l)) → (at n : ℕ) → v ≡ L.String at n → Well (part text at (at + n))
 held_well text l code used v e h q at n i =
     let g = subst (Held text code l) i h in
-    rw g.1 (decoded_well (unquoted l) (q (string_coded code l used at n (e ∙ ap Value i))))
+    rw g.1 (decoded_well (unquoted l) (q (string_coded code l used at n (e ∙ ap Some i))))
 
 texts_well : {s : List ℕ} (text : List ℕ) {used : ℕ} {ts : List Token} {bs : List ℕ} → Valued s used ts bs → Each (InText s text) ts → Each (StringByCharacters s) ts → Each (WellString text) ts
 texts_well text Valued.none none none = none
@@ -137,7 +131,7 @@ texts_well {s} text (Valued.more {used} {t} v h) (more i each) (more q qs) =
 
 -- ---- the laws of the token list
 
-module _ (s : List ℕ) (ts : List Token) (bs : List ℕ) (w : utf8_error_lem s ≡ WellFormed) (e : token_list s ≡ scanned ts bs) where
+module _ (s : List ℕ) (ts : List Token) (bs : List ℕ) (w : utf8_error_lem s ≡ None) (e : token_list s ≡ scanned ts bs) where
   pub tokens_well : Each (WellBytes s) ts
   tokens_well = each_well w (promise s ts bs e)
 

@@ -4,9 +4,9 @@ use mathlib.Core.Path.{◌≡◌}
 use mathlib.Core.List.{List, ◌∷◌}
 use Prim.Native.Nat.{ℕ, suc, ◌*◌}
 use native.Mathlib.Omega.{arith}
+use Rattle.std.specs.Prelude.{None}
 use Rattle.spacing.specs.Indentation.{step}
 use Rattle.utf8.specs.Table.{utf8_error_lem}
-use Rattle.utf8.specs.declared.Utf8.TheVariants.{WellFormed}
 use Rattle.token.specs.Code.{If, Elif, Else, While, For, In, Def, Return, Lambda, Equal, LParen, RParen, LBracket, RBracket, LBrace, RBrace, Colon, Comma, Dot}
 use Rattle.token.specs.Code as token
 use Rattle.unparse.specs.Trees.{Item, Sort, Bracket, Void, sign_code, op_code, comparison_code, alone_code}
@@ -161,6 +161,6 @@ well d l tree.without h = empty_well
 well d l (tree.otherwise b) h = opening_well d (fixed_well Else) (well (suc d) X b h.1)
 well d l (tree.program x) h = well d X x h
 
-pub text_well_formed : (t : tree.Tree Sort.script) → Fine t → utf8_error_lem (standard_text t) ≡ WellFormed
+pub text_well_formed : (t : tree.Tree Sort.script) → Fine t → utf8_error_lem (standard_text t) ≡ None
 unfolding standard_text
 text_well_formed t h = (well 0 X t h).holds

@@ -13,7 +13,7 @@ use Rattle.literal.specs.declared.Literal.{Literal}
 use Rattle.literal.specs.declared.Literal.TheVariants as L
 use Rattle.tokens.specs.Token.{Token}
 use Rattle.ast.specs.Kind as kind
-use Rattle.ast.specs.declared.Leaf.{Leaf}
+use Rattle.ast.specs.declared.Content.{Content}
 use Rattle.ast.specs.Literal.{leaf_of_lem}
 use Rattle.ast.specs.Operator.{unary_op_lem, binary_op_lem}
 use Rattle.pyhyeon.specs.Action.{named, alone, enclose, empty, define, token_at_lem}
@@ -64,7 +64,7 @@ module _ (source : List ℕ) (toks : List Token) where
   unfolding leaf words
   leaf_proper t h = go (token_at_lem source toks t).literal refl
     where
-      its_leaf : Literal → Leaf
+      its_leaf : Literal → Content
       its_leaf l = leaf_of_lem (from source toks t) (upto source toks t) l
 
       says : (k : ℕ) (ws : List ℕ) (l : Literal) → (token_at_lem source toks t).literal ≡ l → OfLeaf (its_leaf l) k ws → Says source toks valued k ws

@@ -4,7 +4,7 @@ use Rattle.std.specs.Prelude.{ℕ, ◌<◌, ◌≡◌, List, [], ◌∷◌, T, l
 use Rattle.grammar.specs.Sets.{mem}
 use Rattle.tokens.specs.Token.{Token}
 use Rattle.ast.specs.Kind as kind
-use Rattle.ast.specs.declared.Leaf.{Leaf}
+use Rattle.ast.specs.declared.Content.{Content}
 use Rattle.ast.specs.Literal.{leaf_of_lem}
 use Rattle.pyhyeon.specs.Symbol.{symbol}
 use Rattle.pyhyeon.specs.Action.{token_at_lem}
@@ -99,7 +99,7 @@ saying k =
     k silent
 
 -- the kind and the words of this literal: a Float's last two are the place of its token (02, change 3)
-abbrev pub OfLeaf : Leaf → ℕ → List ℕ → Type 0
+abbrev pub OfLeaf : Content → ℕ → List ℕ → Type 0
 OfLeaf f k ws = (k ≡ f.kind) × (get_or ws 0 0 ≡ f.p) × (get_or ws 1 0 ≡ f.q) × (get_or ws 2 0 ≡ f.r) × (get_or ws 3 0 ≡ f.s)
 
 module _ (source : List ℕ) (toks : List Token) where
