@@ -6,7 +6,7 @@ ghost use Rattle.leaves.specs.Contract.{a_node, Parts, Ready};
 ghost use Rattle.expr.specs.Parts.{t_on};
 
 use crate::{enter, rest};
-use leaves::{Parsed, State};
+use leaves::{Added, Parsed, State};
 use token::NodeNumber;
 
 // t: E separated by commas. One E alone stays that E; a comma makes it a Tuple.
@@ -14,17 +14,11 @@ pub fn comma_list(src: &[u8], toks: &[u32], tree: &mut [u32], left: u32, s: Stat
     requires { Ready src.now toks.now tree.old s 3 }
     ensures { Parts src.now toks.now left t_joined [] a_node s tree.old result tree.new }
 {
-    let inner = enter(src, toks, tree, left, s);
-    match inner {
-        Parsed::Node(n, after) => {
-            let at = after.at;
-            if lookahead::is_symbol(lookahead::symbol_at(src, toks, at), token::COMMA) {
-                comma_rest(src, toks, tree, left, n, after)
-            } else {
-                Parsed::Node(n, after)
-            }
-        }
-        Parsed::Refused(code, after) => Parsed::Refused(code, after),
+    let Added(n, after) = enter(src, toks, tree, left, s)?;
+    if lookahead::is_symbol(lookahead::symbol_at(src, toks, after.at), token::COMMA) {
+        comma_rest(src, toks, tree, left, n, after)
+    } else {
+        Ok(Added(n, after))
     }
 }
 
@@ -41,14 +35,6 @@ fn comma_rest(
     requires first_lt_nodes { first.0 < s.nodes }
     ensures { Parts src.now toks.now left t_on (growing first.0 first.0 ∷ []) a_node s tree.old result tree.new }
 {
-    let inner = rest(src, toks, tree, left, false, first, first, s);
-    match inner {
-        Parsed::Node(head, after) => {
-            let made = expr_leaves::put_tuple(toks, tree, head, after);
-            let n = made.0;
-            let done = made.1;
-            Parsed::Node(n, done)
-        }
-        Parsed::Refused(code, after) => Parsed::Refused(code, after),
-    }
+    let Added(head, after) = rest(src, toks, tree, left, false, first, first, s)?;
+    Ok(expr_leaves::put_tuple(toks, tree, head, after))
 }

@@ -26,9 +26,10 @@ mod comma;
 mod parameters;
 
 pub use comma::comma_list;
-use leaves::{Parsed, State};
-use levels::{Before, Behind, Chain, Level};
+use leaves::{Added, Parsed, Refused, State};
+use levels::{Chain, Left, Level};
 pub use parameters::names;
+use source::Reason;
 use token::{NodeNumber, TokenNumber};
 
 // E: lambda names : E, or O. Room is asked for before the opening counts.
@@ -38,30 +39,18 @@ pub fn rule_e(src: &[u8], toks: &[u32], tree: &mut [u32], left: u32, s: State) -
     requires begun { Begun src.now toks.now s E }
     ensures { Rules src.now toks.now left E a_node s tree.old result tree.new }
 {
-    let at = s.at;
     if left == 0 {
-        Parsed::Refused(13, s)
+        return Err(Refused(Reason::TooDeep, s));
+    }
+    let room = left - 1;
+    let up = State {
+        opened: s.opened + 1,
+        ..s
+    };
+    if lookahead::is_symbol(lookahead::symbol_at(src, toks, s.at), token::LAMBDA) {
+        lambda(src, toks, tree, room, s.at, leaves::past(up))
     } else {
-        let room = left - 1;
-        let opened = s.opened + 1;
-        if lookahead::is_symbol(lookahead::symbol_at(src, toks, at), token::LAMBDA) {
-            let t = at.0 + 1;
-            let on = State {
-                at: TokenNumber(t),
-                nodes: s.nodes,
-                opened: opened,
-                used: s.used,
-            };
-            lambda(src, toks, tree, room, at, on)
-        } else {
-            let up = State {
-                at: at,
-                nodes: s.nodes,
-                opened: opened,
-                used: s.used,
-            };
-            rule_o(src, toks, tree, room, up)
-        }
+        rule_o(src, toks, tree, room, up)
     }
 }
 
@@ -71,11 +60,10 @@ pub fn enter(src: &[u8], toks: &[u32], tree: &mut [u32], left: u32, s: State) ->
     requires { Ready src.now toks.now tree.old s 3 }
     ensures { Parts src.now toks.now left (call E) [] a_node s tree.old result tree.new }
 {
-    let at = s.at;
-    if lookahead::begins_e(lookahead::symbol_at(src, toks, at)) {
+    if lookahead::begins_e(lookahead::symbol_at(src, toks, s.at)) {
         rule_e(src, toks, tree, left, s)
     } else {
-        Parsed::Refused(16, s)
+        Err(Refused(Reason::Missing, s))
     }
 }
 
@@ -93,14 +81,11 @@ fn lambda(
     requires opener_lt_at { opener.0 < s.at.0 }
     ensures { Parts src.now toks.now left lambda_on (token opener.0 ∷ []) a_node s tree.old result tree.new }
 {
-    let heads = names(src, toks, tree, s);
-    let first = heads.0;
-    let after = heads.1;
-    let colon = after.at;
-    if lookahead::is_symbol(lookahead::symbol_at(src, toks, colon), token::COLON) {
+    let Added(first, after) = names(src, toks, tree, s);
+    if lookahead::is_symbol(lookahead::symbol_at(src, toks, after.at), token::COLON) {
         body(src, toks, tree, left, opener, first, leaves::past(after))
     } else {
-        Parsed::Refused(14, after)
+        Err(Refused(Reason::Misfit, after))
     }
 }
 
@@ -119,16 +104,32 @@ fn body(
     requires opener_lt_at { opener.0 < s.at.0 }
     ensures { Parts src.now toks.now left lambda_body (list first.0 ∷ token opener.0 ∷ []) a_node s tree.old result tree.new }
 {
-    let inner = enter(src, toks, tree, left, s);
-    match inner {
-        Parsed::Node(n, after) => {
-            let made = expr_leaves::put_lambda(toks, tree, opener, first, n, after);
-            let m = made.0;
-            let done = made.1;
-            Parsed::Node(m, done)
+    let Added(n, after) = enter(src, toks, tree, left, s)?;
+    Ok(expr_leaves::put_lambda(toks, tree, opener, first, n, after))
+}
+
+// What O, A, S and P are: operands of a rule by the operators of a level, grouped left. It is a text and no function, so that each of the four has a loop of its
+// own, which the compiler puts into the others': one function over the level would be called once more for each of them at every operand, and its frames do not
+// fit into the stack that is promised where parentheses nest (docs/PERFORMANCE.md).
+macro_rules! grouped {
+    ($operand:ident, $level:expr, $src:ident, $toks:ident, $tree:ident, $left:ident, $s:ident) => {{
+        let mut st = State {
+            opened: $s.opened + 1,
+            ..$s
+        };
+        let mut before = None;
+        loop {
+            let Added(n, after) = $operand($src, $toks, $tree, $left, st)?;
+            let Added(l, done) = levels::join($toks, $tree, before, n, after);
+            match levels::look($src, $toks, $level, done)? {
+                Some(on) => {
+                    before = Some(Left(done.at, l));
+                    st = on;
+                }
+                None => return Ok(Added(l, done)),
+            }
         }
-        Parsed::Refused(code, after) => Parsed::Refused(code, after),
-    }
+    }};
 }
 
 // O: A by `or`.
@@ -138,37 +139,7 @@ fn rule_o(src: &[u8], toks: &[u32], tree: &mut [u32], left: u32, s: State) -> Pa
     requires begun { Begun src.now toks.now s O }
     ensures { Rules src.now toks.now left O a_node s tree.old result tree.new }
 {
-    let at = s.at;
-    let opened = s.opened + 1;
-    let up = State {
-        at: at,
-        nodes: s.nodes,
-        opened: opened,
-        used: s.used,
-    };
-    let mut st = up;
-    let mut before = Before::Nothing;
-    loop {
-        let inner = rule_a(src, toks, tree, left, st);
-        match inner {
-            Parsed::Node(n, after) => {
-                let made = levels::join(toks, tree, before, n, after);
-                let l = made.0;
-                let done = made.1;
-                let behind = levels::look(src, toks, Level::Or, done);
-                match behind {
-                    Behind::Operand(on) => {
-                        let op = done.at;
-                        before = Before::Operator(op, l);
-                        st = on;
-                    }
-                    Behind::Nothing => return Parsed::Node(l, done),
-                    Behind::Missing(on) => return Parsed::Refused(16, on),
-                }
-            }
-            Parsed::Refused(code, after) => return Parsed::Refused(code, after),
-        }
-    }
+    grouped!(rule_a, Level::Or, src, toks, tree, left, s)
 }
 
 // A: C by `and`.
@@ -178,37 +149,7 @@ fn rule_a(src: &[u8], toks: &[u32], tree: &mut [u32], left: u32, s: State) -> Pa
     requires begun { Begun src.now toks.now s rules.A }
     ensures { Rules src.now toks.now left rules.A a_node s tree.old result tree.new }
 {
-    let at = s.at;
-    let opened = s.opened + 1;
-    let up = State {
-        at: at,
-        nodes: s.nodes,
-        opened: opened,
-        used: s.used,
-    };
-    let mut st = up;
-    let mut before = Before::Nothing;
-    loop {
-        let inner = rule_c(src, toks, tree, left, st);
-        match inner {
-            Parsed::Node(n, after) => {
-                let made = levels::join(toks, tree, before, n, after);
-                let l = made.0;
-                let done = made.1;
-                let behind = levels::look(src, toks, Level::And, done);
-                match behind {
-                    Behind::Operand(on) => {
-                        let op = done.at;
-                        before = Before::Operator(op, l);
-                        st = on;
-                    }
-                    Behind::Nothing => return Parsed::Node(l, done),
-                    Behind::Missing(on) => return Parsed::Refused(16, on),
-                }
-            }
-            Parsed::Refused(code, after) => return Parsed::Refused(code, after),
-        }
-    }
+    grouped!(rule_c, Level::And, src, toks, tree, left, s)
 }
 
 // C: S by comparisons. `a<b<c` is And(a<b, b<c), whose b is one node.
@@ -218,35 +159,20 @@ fn rule_c(src: &[u8], toks: &[u32], tree: &mut [u32], left: u32, s: State) -> Pa
     requires begun { Begun src.now toks.now s C }
     ensures { Rules src.now toks.now left C a_node s tree.old result tree.new }
 {
-    let at = s.at;
-    let opened = s.opened + 1;
-    let up = State {
-        at: at,
-        nodes: s.nodes,
-        opened: opened,
-        used: s.used,
+    let mut st = State {
+        opened: s.opened + 1,
+        ..s
     };
-    let mut st = up;
     let mut before = Chain::Nothing;
     loop {
-        let inner = rule_s(src, toks, tree, left, st);
-        match inner {
-            Parsed::Node(n, after) => {
-                let made = levels::compare(toks, tree, before, n, after);
-                let l = made.0;
-                let done = made.1;
-                let behind = levels::look(src, toks, Level::Comparison, done);
-                match behind {
-                    Behind::Operand(on) => {
-                        let op = done.at;
-                        before = levels::lengthen(before, op, l, n);
-                        st = on;
-                    }
-                    Behind::Nothing => return Parsed::Node(l, done),
-                    Behind::Missing(on) => return Parsed::Refused(16, on),
-                }
+        let Added(n, after) = rule_s(src, toks, tree, left, st)?;
+        let Added(l, done) = levels::compare(toks, tree, before, n, after);
+        match levels::look(src, toks, Level::Comparison, done)? {
+            Some(on) => {
+                before = levels::lengthen(before, done.at, l, n);
+                st = on;
             }
-            Parsed::Refused(code, after) => return Parsed::Refused(code, after),
+            None => return Ok(Added(l, done)),
         }
     }
 }
@@ -258,37 +184,7 @@ fn rule_s(src: &[u8], toks: &[u32], tree: &mut [u32], left: u32, s: State) -> Pa
     requires begun { Begun src.now toks.now s S }
     ensures { Rules src.now toks.now left S a_node s tree.old result tree.new }
 {
-    let at = s.at;
-    let opened = s.opened + 1;
-    let up = State {
-        at: at,
-        nodes: s.nodes,
-        opened: opened,
-        used: s.used,
-    };
-    let mut st = up;
-    let mut before = Before::Nothing;
-    loop {
-        let inner = rule_p(src, toks, tree, left, st);
-        match inner {
-            Parsed::Node(n, after) => {
-                let made = levels::join(toks, tree, before, n, after);
-                let l = made.0;
-                let done = made.1;
-                let behind = levels::look(src, toks, Level::Sum, done);
-                match behind {
-                    Behind::Operand(on) => {
-                        let op = done.at;
-                        before = Before::Operator(op, l);
-                        st = on;
-                    }
-                    Behind::Nothing => return Parsed::Node(l, done),
-                    Behind::Missing(on) => return Parsed::Refused(16, on),
-                }
-            }
-            Parsed::Refused(code, after) => return Parsed::Refused(code, after),
-        }
-    }
+    grouped!(rule_p, Level::Sum, src, toks, tree, left, s)
 }
 
 // P: U by * // / %.
@@ -298,37 +194,7 @@ fn rule_p(src: &[u8], toks: &[u32], tree: &mut [u32], left: u32, s: State) -> Pa
     requires begun { Begun src.now toks.now s P }
     ensures { Rules src.now toks.now left P a_node s tree.old result tree.new }
 {
-    let at = s.at;
-    let opened = s.opened + 1;
-    let up = State {
-        at: at,
-        nodes: s.nodes,
-        opened: opened,
-        used: s.used,
-    };
-    let mut st = up;
-    let mut before = Before::Nothing;
-    loop {
-        let inner = rule_u(src, toks, tree, left, st);
-        match inner {
-            Parsed::Node(n, after) => {
-                let made = levels::join(toks, tree, before, n, after);
-                let l = made.0;
-                let done = made.1;
-                let behind = levels::look(src, toks, Level::Product, done);
-                match behind {
-                    Behind::Operand(on) => {
-                        let op = done.at;
-                        before = Before::Operator(op, l);
-                        st = on;
-                    }
-                    Behind::Nothing => return Parsed::Node(l, done),
-                    Behind::Missing(on) => return Parsed::Refused(16, on),
-                }
-            }
-            Parsed::Refused(code, after) => return Parsed::Refused(code, after),
-        }
-    }
+    grouped!(rule_u, Level::Product, src, toks, tree, left, s)
 }
 
 // U: any of not - +, then F.
@@ -339,28 +205,17 @@ fn rule_u(src: &[u8], toks: &[u32], tree: &mut [u32], left: u32, s: State) -> Pa
     ensures { Rules src.now toks.now left U a_node s tree.old result tree.new }
 {
     let first = s.at;
-    let opened = s.opened + 1;
     let end = lookahead::skip_signs(src, toks, first);
     let on = State {
         at: end,
-        nodes: s.nodes,
-        opened: opened,
-        used: s.used,
+        opened: s.opened + 1,
+        ..s
     };
-    if lookahead::behind_signs(src, toks, first, end) {
-        let inner = rule_f(src, toks, tree, left, on);
-        match inner {
-            Parsed::Node(n, after) => {
-                let made = expr_leaves::wrap(toks, tree, first, end, n, after);
-                let m = made.0;
-                let done = made.1;
-                Parsed::Node(m, done)
-            }
-            Parsed::Refused(code, after) => Parsed::Refused(code, after),
-        }
-    } else {
-        Parsed::Refused(16, on)
+    if !lookahead::behind_signs(src, toks, first, end) {
+        return Err(Refused(Reason::Missing, on));
     }
+    let Added(n, after) = rule_f(src, toks, tree, left, on)?;
+    Ok(expr_leaves::wrap(toks, tree, first, end, n, after))
 }
 
 // F: a primary, then .name (list) [E] repeated.
@@ -370,19 +225,12 @@ fn rule_f(src: &[u8], toks: &[u32], tree: &mut [u32], left: u32, s: State) -> Pa
     requires begun { Begun src.now toks.now s F }
     ensures { Rules src.now toks.now left F a_node s tree.old result tree.new }
 {
-    let at = s.at;
-    let opened = s.opened + 1;
     let up = State {
-        at: at,
-        nodes: s.nodes,
-        opened: opened,
-        used: s.used,
+        opened: s.opened + 1,
+        ..s
     };
-    let inner = head(src, toks, tree, left, up);
-    match inner {
-        Parsed::Node(n, after) => posts(src, toks, tree, left, n, after),
-        Parsed::Refused(code, after) => Parsed::Refused(code, after),
-    }
+    let Added(n, after) = head(src, toks, tree, left, up)?;
+    posts(src, toks, tree, left, n, after)
 }
 
 // What stands before the postfix parts: a bracket, the name `t`, a name, or else a literal.
@@ -392,33 +240,14 @@ fn head(src: &[u8], toks: &[u32], tree: &mut [u32], left: u32, s: State) -> Pars
     requires begun { Begun src.now toks.now s F }
     ensures { Parts src.now toks.now left primary [] a_node s tree.old result tree.new }
 {
-    let at = s.at;
-    match lookahead::symbol_at(src, toks, at) {
-        token::LBRACKET => shown(
-            src,
-            toks,
-            tree,
-            left,
-            at,
-            token::RBRACKET,
-            ast::LIST,
-            leaves::past(s),
-        ),
-        lookahead::TEE => tee(src, toks, tree, left, at, leaves::past(s)),
-        token::LBRACE => braces(src, toks, tree, left, at, leaves::past(s)),
-        token::LPAREN => round(src, toks, tree, left, at, leaves::past(s)),
-        token::IDENTIFIER => {
-            let made = expr_leaves::put_named(toks, tree, ast::VARIABLE, leaves::past(s));
-            let n = made.0;
-            let after = made.1;
-            Parsed::Node(n, after)
-        }
-        _ => {
-            let made = expr_leaves::put_literal(src, toks, tree, leaves::past(s));
-            let n = made.0;
-            let after = made.1;
-            Parsed::Node(n, after)
-        }
+    let on = leaves::past(s);
+    match lookahead::symbol_at(src, toks, s.at) {
+        token::LBRACKET => shown(src, toks, tree, left, s.at, token::RBRACKET, ast::LIST, on),
+        lookahead::TEE => tee(src, toks, tree, left, s.at, on),
+        token::LBRACE => braces(src, toks, tree, left, s.at, on),
+        token::LPAREN => round(src, toks, tree, left, s.at, on),
+        token::IDENTIFIER => Ok(expr_leaves::put_named(toks, tree, ast::VARIABLE, on)),
+        _ => Ok(expr_leaves::put_literal(src, toks, tree, on)),
     }
 }
 
@@ -436,8 +265,8 @@ fn tee(
     requires opener_value { opener.0 + 1 ≡ s.at.0 }
     ensures { Parts src.now toks.now left tee_on [] a_node s tree.old result tree.new }
 {
-    let at = s.at;
-    if lookahead::is_symbol(lookahead::symbol_at(src, toks, at), token::LBRACE) {
+    if lookahead::is_symbol(lookahead::symbol_at(src, toks, s.at), token::LBRACE) {
+        let on = leaves::past(s);
         shown(
             src,
             toks,
@@ -446,13 +275,10 @@ fn tee(
             opener,
             token::RBRACE,
             ast::TREE_SET,
-            leaves::past(s),
+            on,
         )
     } else {
-        let made = expr_leaves::put_named(toks, tree, ast::VARIABLE, s);
-        let n = made.0;
-        let after = made.1;
-        Parsed::Node(n, after)
+        Ok(expr_leaves::put_named(toks, tree, ast::VARIABLE, s))
     }
 }
 
@@ -472,11 +298,8 @@ fn shown(
     requires opener_lt_at { (opener.0 < s.at.0) × (mem Eof (close ∷ []) ≡ false) × (mem String (close ∷ []) ≡ false) }
     ensures { Parts src.now toks.now left (enclosed close kind) (token opener.0 ∷ []) a_node s tree.old result tree.new }
 {
-    let inner = items(src, toks, tree, left, s);
-    match inner {
-        Parsed::Node(first, after) => shut(src, toks, tree, opener, close, kind, first, after),
-        Parsed::Refused(code, after) => Parsed::Refused(code, after),
-    }
+    let Added(first, after) = items(src, toks, tree, left, s)?;
+    shut(src, toks, tree, opener, close, kind, first, after)
 }
 
 // The bracket that ends a list.
@@ -494,14 +317,11 @@ fn shut(
     requires opener_lt_at { (opener.0 < s.at.0) × (mem Eof (close ∷ []) ≡ false) × (mem String (close ∷ []) ≡ false) }
     ensures { (room : ℕ) → Parts src.now toks.now room (closes close kind) (list first.0 ∷ token opener.0 ∷ []) a_node s tree.old result tree.new }
 {
-    let at = s.at;
-    if lookahead::is_symbol(lookahead::symbol_at(src, toks, at), close) {
-        let made = expr_leaves::put_enclosed(toks, tree, kind, opener, first, leaves::past(s));
-        let n = made.0;
-        let after = made.1;
-        Parsed::Node(n, after)
+    if lookahead::is_symbol(lookahead::symbol_at(src, toks, s.at), close) {
+        let on = leaves::past(s);
+        Ok(expr_leaves::put_enclosed(toks, tree, kind, opener, first, on))
     } else {
-        Parsed::Refused(14, s)
+        Err(Refused(Reason::Misfit, s))
     }
 }
 
@@ -511,19 +331,16 @@ fn items(src: &[u8], toks: &[u32], tree: &mut [u32], left: u32, s: State) -> Par
     requires { Ready src.now toks.now tree.old s 1 }
     ensures { Parts src.now toks.now left rules.list [] a_list s tree.old result tree.new }
 {
-    let at = s.at;
-    if lookahead::begins_e(lookahead::symbol_at(src, toks, at)) {
-        let inner = rule_e(src, toks, tree, left, s);
-        match inner {
-            Parsed::Node(n, after) => rest(src, toks, tree, left, false, n, n, after),
-            Parsed::Refused(code, after) => Parsed::Refused(code, after),
-        }
+    if lookahead::begins_e(lookahead::symbol_at(src, toks, s.at)) {
+        let Added(n, after) = rule_e(src, toks, tree, left, s)?;
+        rest(src, toks, tree, left, false, n, n, after)
     } else {
-        Parsed::Node(NodeNumber(ast::NONE_NODE), s)
+        Ok(Added(NodeNumber(ast::NONE_NODE), s))
     }
 }
 
-// The rest of a list of E, or of pairs, after the member `newest`: each member is linked to the one before it.
+// The rest of a list of E, or of pairs, after the member `newest`: each member is linked to the one before it. Which of both is a bool, as in the definition
+// `others`.
 #[cycle(expr)]
 fn rest(
     src: &[u8],
@@ -541,28 +358,17 @@ fn rest(
 {
     let mut last = newest;
     let mut st = s;
-    loop {
-        let at = st.at;
-        if lookahead::is_symbol(lookahead::symbol_at(src, toks, at), token::COMMA) {
-            let on = leaves::past(st);
-            let next = on.at;
-            if lookahead::begins_e(lookahead::symbol_at(src, toks, next)) {
-                let inner = member(src, toks, tree, left, paired, on);
-                match inner {
-                    Parsed::Node(n, after) => {
-                        leaves::link(tree, last, n, after);
-                        last = n;
-                        st = after;
-                    }
-                    Parsed::Refused(code, after) => return Parsed::Refused(code, after),
-                }
-            } else {
-                return Parsed::Node(first, on);
-            }
-        } else {
-            return Parsed::Node(first, st);
+    while lookahead::is_symbol(lookahead::symbol_at(src, toks, st.at), token::COMMA) {
+        let on = leaves::past(st);
+        if !lookahead::begins_e(lookahead::symbol_at(src, toks, on.at)) {
+            return Ok(Added(first, on));
         }
+        let Added(n, after) = member(src, toks, tree, left, paired, on)?;
+        leaves::link(tree, last, n, after);
+        last = n;
+        st = after;
     }
+    Ok(Added(first, st))
 }
 
 // After `{`: `}` at once is a Dict, else the first E decides. Either was asked for, so what is neither is refused by 14.
@@ -579,21 +385,15 @@ fn braces(
     requires opener_lt_at { opener.0 < s.at.0 }
     ensures { Parts src.now toks.now left tables.braces (token opener.0 ∷ []) a_node s tree.old result tree.new }
 {
-    let at = s.at;
-    let symbol = lookahead::symbol_at(src, toks, at);
+    let symbol = lookahead::symbol_at(src, toks, s.at);
     if lookahead::is_symbol(symbol, token::RBRACE) {
-        let made = expr_leaves::put_empty(toks, tree, ast::DICT, opener, leaves::past(s));
-        let n = made.0;
-        let after = made.1;
-        Parsed::Node(n, after)
+        let on = leaves::past(s);
+        Ok(expr_leaves::put_empty(toks, tree, ast::DICT, opener, on))
     } else if lookahead::begins_e(symbol) {
-        let inner = rule_e(src, toks, tree, left, s);
-        match inner {
-            Parsed::Node(n, after) => brace(src, toks, tree, left, opener, n, after),
-            Parsed::Refused(code, after) => Parsed::Refused(code, after),
-        }
+        let Added(n, after) = rule_e(src, toks, tree, left, s)?;
+        brace(src, toks, tree, left, opener, n, after)
     } else {
-        Parsed::Refused(14, s)
+        Err(Refused(Reason::Misfit, s))
     }
 }
 
@@ -612,8 +412,7 @@ fn brace(
     requires opener_lt_at { (opener.0 < s.at.0) × (first.0 < s.nodes) }
     ensures { Parts src.now toks.now left (pairs_on ∕ set_on) (node first.0 ∷ token opener.0 ∷ []) a_node s tree.old result tree.new }
 {
-    let at = s.at;
-    if lookahead::is_symbol(lookahead::symbol_at(src, toks, at), token::COLON) {
+    if lookahead::is_symbol(lookahead::symbol_at(src, toks, s.at), token::COLON) {
         pairs(src, toks, tree, left, opener, first, leaves::past(s))
     } else {
         listed(
@@ -647,11 +446,8 @@ fn listed(
     requires opener_lt_at { (opener.0 < s.at.0) × (first.0 < s.nodes) × (mem Eof (close ∷ []) ≡ false) × (mem String (close ∷ []) ≡ false) }
     ensures { Parts src.now toks.now left (listed_on close kind) (growing first.0 first.0 ∷ token opener.0 ∷ []) a_node s tree.old result tree.new }
 {
-    let inner = rest(src, toks, tree, left, false, first, first, s);
-    match inner {
-        Parsed::Node(head, after) => shut(src, toks, tree, opener, close, kind, head, after),
-        Parsed::Refused(code, after) => Parsed::Refused(code, after),
-    }
+    let Added(head, after) = rest(src, toks, tree, left, false, first, first, s)?;
+    shut(src, toks, tree, opener, close, kind, head, after)
 }
 
 // A Dict, after the colon of its first pair.
@@ -669,26 +465,18 @@ fn pairs(
     requires opener_lt_at { (opener.0 < s.at.0) × (key.0 < s.nodes) }
     ensures { Parts src.now toks.now left pairs_rest (node key.0 ∷ token opener.0 ∷ []) a_node s tree.old result tree.new }
 {
-    let inner = value(src, toks, tree, left, key, s);
-    match inner {
-        Parsed::Node(n, after) => {
-            let more = rest(src, toks, tree, left, true, n, n, after);
-            match more {
-                Parsed::Node(head, done) => shut(
-                    src,
-                    toks,
-                    tree,
-                    opener,
-                    token::RBRACE,
-                    ast::DICT,
-                    head,
-                    done,
-                ),
-                Parsed::Refused(code, done) => Parsed::Refused(code, done),
-            }
-        }
-        Parsed::Refused(code, after) => Parsed::Refused(code, after),
-    }
+    let Added(n, after) = value(src, toks, tree, left, key, s)?;
+    let Added(head, done) = rest(src, toks, tree, left, true, n, n, after)?;
+    shut(
+        src,
+        toks,
+        tree,
+        opener,
+        token::RBRACE,
+        ast::DICT,
+        head,
+        done,
+    )
 }
 
 // A pair, after its colon.
@@ -698,16 +486,8 @@ fn value(src: &[u8], toks: &[u32], tree: &mut [u32], left: u32, key: NodeNumber,
     requires key_lt_nodes { key.0 < s.nodes }
     ensures { Parts src.now toks.now left valued (node key.0 ∷ []) a_node s tree.old result tree.new }
 {
-    let inner = enter(src, toks, tree, left, s);
-    match inner {
-        Parsed::Node(n, after) => {
-            let made = expr_leaves::put_pair(toks, tree, key, n, after);
-            let m = made.0;
-            let done = made.1;
-            Parsed::Node(m, done)
-        }
-        Parsed::Refused(code, after) => Parsed::Refused(code, after),
-    }
+    let Added(n, after) = enter(src, toks, tree, left, s)?;
+    Ok(expr_leaves::put_pair(toks, tree, key, n, after))
 }
 
 // A pair.
@@ -717,17 +497,11 @@ fn item(src: &[u8], toks: &[u32], tree: &mut [u32], left: u32, s: State) -> Pars
     requires begun { Begun src.now toks.now s E }
     ensures { Parts src.now toks.now left entry [] a_node s tree.old result tree.new }
 {
-    let inner = rule_e(src, toks, tree, left, s);
-    match inner {
-        Parsed::Node(key, after) => {
-            let colon = after.at;
-            if lookahead::is_symbol(lookahead::symbol_at(src, toks, colon), token::COLON) {
-                value(src, toks, tree, left, key, leaves::past(after))
-            } else {
-                Parsed::Refused(14, after)
-            }
-        }
-        Parsed::Refused(code, after) => Parsed::Refused(code, after),
+    let Added(key, after) = rule_e(src, toks, tree, left, s)?;
+    if lookahead::is_symbol(lookahead::symbol_at(src, toks, after.at), token::COLON) {
+        value(src, toks, tree, left, key, leaves::past(after))
+    } else {
+        Err(Refused(Reason::Misfit, after))
     }
 }
 
@@ -759,18 +533,14 @@ fn round(
     requires opener_lt_at { opener.0 < s.at.0 }
     ensures { Parts src.now toks.now left tables.round (token opener.0 ∷ []) a_node s tree.old result tree.new }
 {
-    let at = s.at;
-    let symbol = lookahead::symbol_at(src, toks, at);
+    let symbol = lookahead::symbol_at(src, toks, s.at);
     if lookahead::begins_e(symbol) {
-        let inner = rule_e(src, toks, tree, left, s);
-        match inner {
-            Parsed::Node(n, after) => paren(src, toks, tree, left, opener, n, after),
-            Parsed::Refused(code, after) => Parsed::Refused(code, after),
-        }
+        let Added(n, after) = rule_e(src, toks, tree, left, s)?;
+        paren(src, toks, tree, left, opener, n, after)
     } else if lookahead::is_symbol(symbol, token::RPAREN) {
         unit(src, toks, tree, opener, leaves::past(s))
     } else {
-        Parsed::Refused(14, s)
+        Err(Refused(Reason::Misfit, s))
     }
 }
 
@@ -780,14 +550,11 @@ fn unit(src: &[u8], toks: &[u32], tree: &mut [u32], opener: TokenNumber, s: Stat
     requires opener_lt_at { opener.0 < s.at.0 }
     ensures { (room : ℕ) → Parts src.now toks.now room (rules.tk RParen ⨾ act (empty kind.Tuple)) (token opener.0 ∷ []) a_node s tree.old result tree.new }
 {
-    let at = s.at;
-    if lookahead::is_symbol(lookahead::symbol_at(src, toks, at), token::RPAREN) {
-        let made = expr_leaves::put_empty(toks, tree, ast::TUPLE, opener, leaves::past(s));
-        let n = made.0;
-        let after = made.1;
-        Parsed::Node(n, after)
+    if lookahead::is_symbol(lookahead::symbol_at(src, toks, s.at), token::RPAREN) {
+        let on = leaves::past(s);
+        Ok(expr_leaves::put_empty(toks, tree, ast::TUPLE, opener, on))
     } else {
-        Parsed::Refused(14, s)
+        Err(Refused(Reason::Misfit, s))
     }
 }
 
@@ -806,12 +573,11 @@ fn paren(
     requires opener_lt_at { (opener.0 < s.at.0) × (first.0 < s.nodes) }
     ensures { Parts src.now toks.now left round_on (node first.0 ∷ token opener.0 ∷ []) a_node s tree.old result tree.new }
 {
-    let at = s.at;
-    let symbol = lookahead::symbol_at(src, toks, at);
+    let symbol = lookahead::symbol_at(src, toks, s.at);
     if lookahead::is_symbol(symbol, token::RPAREN) {
         let on = leaves::past(s);
         leaves::widen(toks, tree, opener, first, on);
-        Parsed::Node(first, on)
+        Ok(Added(first, on))
     } else if lookahead::is_symbol(symbol, token::COMMA) {
         listed(
             src,
@@ -825,7 +591,7 @@ fn paren(
             s,
         )
     } else {
-        Parsed::Refused(14, s)
+        Err(Refused(Reason::Misfit, s))
     }
 }
 
@@ -845,21 +611,12 @@ fn posts(
 {
     let mut n = first;
     let mut st = s;
-    loop {
-        let at = st.at;
-        if lookahead::begins_postfix(lookahead::symbol_at(src, toks, at)) {
-            let more = post(src, toks, tree, left, n, st);
-            match more {
-                Parsed::Node(m, after) => {
-                    n = m;
-                    st = after;
-                }
-                Parsed::Refused(code, after) => return Parsed::Refused(code, after),
-            }
-        } else {
-            return Parsed::Node(n, st);
-        }
+    while lookahead::begins_postfix(lookahead::symbol_at(src, toks, st.at)) {
+        let Added(m, after) = post(src, toks, tree, left, n, st)?;
+        n = m;
+        st = after;
     }
+    Ok(Added(n, st))
 }
 
 // One of them: the token there begins it.
@@ -869,18 +626,13 @@ fn post(src: &[u8], toks: &[u32], tree: &mut [u32], left: u32, n: NodeNumber, s:
     requires n_lt_nodes { (n.0 < s.nodes) × (mem (symbol_at src.now toks.now s.at.0) (Dot ∷ LParen ∷ LBracket ∷ []) ≡ true) }
     ensures { Parts src.now toks.now left postfix (node n.0 ∷ []) a_node s tree.old result tree.new }
 {
-    let at = s.at;
     let on = leaves::past(s);
-    match lookahead::symbol_at(src, toks, at) {
+    match lookahead::symbol_at(src, toks, s.at) {
         token::DOT => {
-            let next = on.at;
-            if lookahead::is_name(lookahead::symbol_at(src, toks, next)) {
-                let made = expr_leaves::put_attribute(toks, tree, n, leaves::past(on));
-                let m = made.0;
-                let after = made.1;
-                Parsed::Node(m, after)
+            if lookahead::is_name(lookahead::symbol_at(src, toks, on.at)) {
+                Ok(expr_leaves::put_attribute(toks, tree, n, leaves::past(on)))
             } else {
-                Parsed::Refused(14, on)
+                Err(Refused(Reason::Misfit, on))
             }
         }
         token::LPAREN => args(src, toks, tree, left, n, on),
@@ -895,43 +647,27 @@ fn args(src: &[u8], toks: &[u32], tree: &mut [u32], left: u32, n: NodeNumber, s:
     requires n_lt_nodes { n.0 < s.nodes }
     ensures { Parts src.now toks.now left call_on (node n.0 ∷ []) a_node s tree.old result tree.new }
 {
-    let inner = items(src, toks, tree, left, s);
-    match inner {
-        Parsed::Node(first, after) => {
-            let close = after.at;
-            if lookahead::is_symbol(lookahead::symbol_at(src, toks, close), token::RPAREN) {
-                let made = expr_leaves::put_apply(toks, tree, n, first, leaves::past(after));
-                let m = made.0;
-                let done = made.1;
-                Parsed::Node(m, done)
-            } else {
-                Parsed::Refused(14, after)
-            }
-        }
-        Parsed::Refused(code, after) => Parsed::Refused(code, after),
+    let Added(first, after) = items(src, toks, tree, left, s)?;
+    if lookahead::is_symbol(lookahead::symbol_at(src, toks, after.at), token::RPAREN) {
+        let on = leaves::past(after);
+        Ok(expr_leaves::put_apply(toks, tree, n, first, on))
+    } else {
+        Err(Refused(Reason::Misfit, after))
     }
 }
 
-// An index, after its `[`.
+// An index, after its `[`. (As a call, but for what it reads and writes, which is all of it.)
 #[cycle(expr)]
 fn index(src: &[u8], toks: &[u32], tree: &mut [u32], left: u32, n: NodeNumber, s: State) -> Parsed
     requires ready { Ready src.now toks.now tree.old s 1 }
     requires n_lt_nodes { n.0 < s.nodes }
     ensures { Parts src.now toks.now left index_on (node n.0 ∷ []) a_node s tree.old result tree.new }
 {
-    let inner = enter(src, toks, tree, left, s);
-    match inner {
-        Parsed::Node(i, after) => {
-            let close = after.at;
-            if lookahead::is_symbol(lookahead::symbol_at(src, toks, close), token::RBRACKET) {
-                let made = expr_leaves::put_index(toks, tree, n, i, leaves::past(after));
-                let m = made.0;
-                let done = made.1;
-                Parsed::Node(m, done)
-            } else {
-                Parsed::Refused(14, after)
-            }
-        }
-        Parsed::Refused(code, after) => Parsed::Refused(code, after),
+    let Added(i, after) = enter(src, toks, tree, left, s)?;
+    if lookahead::is_symbol(lookahead::symbol_at(src, toks, after.at), token::RBRACKET) {
+        let on = leaves::past(after);
+        Ok(expr_leaves::put_index(toks, tree, n, i, on))
+    } else {
+        Err(Refused(Reason::Misfit, after))
     }
 }

@@ -5,8 +5,7 @@ ghost use Rattle.token.specs.Code.{Comma};
 ghost use Rattle.pyhyeon.specs.Machine.{growing};
 ghost use Rattle.pyhyeon.specs.Rules.{parameters, more};
 ghost use Rattle.pyhyeon.specs.Action.{list_done};
-ghost use Rattle.leaves.specs.declared.Parsed.TheVariants as parsed;
-ghost use Rattle.leaves.specs.Contract.{a_list, Parts, Ready};
+ghost use Rattle.leaves.specs.Contract.{read, a_list, Parts, Ready};
 ghost use Rattle.expr.specs.Parts.{name};
 
 use leaves::{Added, State};
@@ -15,13 +14,10 @@ use token::NodeNumber;
 // A list of names, which may be empty.
 pub fn names(src: &[u8], toks: &[u32], tree: &mut [u32], s: State) -> Added
     requires { Ready src.now toks.now tree.old s 1 }
-    ensures { (room : ℕ) → Parts src.now toks.now room parameters [] a_list s tree.old (parsed.Node result.0 result.1) tree.new }
+    ensures { (room : ℕ) → Parts src.now toks.now room parameters [] a_list s tree.old (read result.0 result.1) tree.new }
 {
-    let at = s.at;
-    if lookahead::is_name(lookahead::symbol_at(src, toks, at)) {
-        let made = expr_leaves::put_named(toks, tree, ast::NAME, leaves::past(s));
-        let first = made.0;
-        let after = made.1;
+    if lookahead::is_name(lookahead::symbol_at(src, toks, s.at)) {
+        let Added(first, after) = expr_leaves::put_named(toks, tree, ast::NAME, leaves::past(s));
         names_rest(src, toks, tree, first, after)
     } else {
         Added(NodeNumber(ast::NONE_NODE), s)
@@ -32,27 +28,19 @@ pub fn names(src: &[u8], toks: &[u32], tree: &mut [u32], s: State) -> Added
 fn names_rest(src: &[u8], toks: &[u32], tree: &mut [u32], first: NodeNumber, s: State) -> Added
     requires ready { Ready src.now toks.now tree.old s 1 }
     requires first_lt_nodes { first.0 < s.nodes }
-    ensures { (room : ℕ) → Parts src.now toks.now room (tail Comma (more name) ⨾ act list_done) (growing first.0 first.0 ∷ []) a_list s tree.old (parsed.Node result.0 result.1) tree.new }
+    ensures { (room : ℕ) → Parts src.now toks.now room (tail Comma (more name) ⨾ act list_done) (growing first.0 first.0 ∷ []) a_list s tree.old (read result.0 result.1) tree.new }
 {
     let mut last = first;
     let mut st = s;
-    loop {
-        let at = st.at;
-        if lookahead::is_symbol(lookahead::symbol_at(src, toks, at), token::COMMA) {
-            let on = leaves::past(st);
-            let next = on.at;
-            if lookahead::is_name(lookahead::symbol_at(src, toks, next)) {
-                let made = expr_leaves::put_named(toks, tree, ast::NAME, leaves::past(on));
-                let n = made.0;
-                let after = made.1;
-                leaves::link(tree, last, n, after);
-                last = n;
-                st = after;
-            } else {
-                return Added(first, on);
-            }
-        } else {
-            return Added(first, st);
+    while lookahead::is_symbol(lookahead::symbol_at(src, toks, st.at), token::COMMA) {
+        let on = leaves::past(st);
+        if !lookahead::is_name(lookahead::symbol_at(src, toks, on.at)) {
+            return Added(first, on);
         }
+        let Added(n, after) = expr_leaves::put_named(toks, tree, ast::NAME, leaves::past(on));
+        leaves::link(tree, last, n, after);
+        last = n;
+        st = after;
     }
+    Added(first, st)
 }

@@ -9,7 +9,7 @@ use Rattle.literal.specs.declared.Literal.{Literal}
 use Rattle.tokens.specs.Token.{Token}
 use Rattle.ast.specs.Kind as kind
 use Rattle.ast.specs.Node.{Node, none, made}
-use Rattle.ast.specs.declared.Leaf.{Leaf}
+use Rattle.ast.specs.declared.Content.{Content}
 use Rattle.ast.specs.Literal.{leaf_of_lem, literal_node_lem}
 use Rattle.ast.specs.Operator.{unary_op_lem, binary_op_lem}
 use Rattle.ast.specs.Words.{node_at}
@@ -86,8 +86,8 @@ module _ {toks tr : List ℕ} {s : State} (here : Spot toks tr s) {tr' : List �
   }
 
 -- the node of the literal m, whose token stands from x to y, of the leaf that was made of them
-pub leaf_node : (x y : ℕ) {a b : ℕ} {f : Leaf} {l m : Literal} → f ≡ leaf_of_lem a b l → a ≡ x → b ≡ y → l ≡ m → made f.kind x y f.p f.q f.r f.s ≡ literal_node_lem x y m
-leaf_node x y e starts ends d = ap (λ (f : Leaf). made f.kind x y f.p f.q f.r f.s) (e ∙ rw (starts, ends, d))
+pub leaf_node : (x y : ℕ) {a b : ℕ} {f : Content} {l m : Literal} → f ≡ leaf_of_lem a b l → a ≡ x → b ≡ y → l ≡ m → made f.kind x y f.p f.q f.r f.s ≡ literal_node_lem x y m
+leaf_node x y e starts ends d = ap (λ (f : Content). made f.kind x y f.p f.q f.r f.s) (e ∙ rw (starts, ends, d))
 
 -- the node of a literal, where its text is counted first
 pub literal_wrote : {src toks tr tr' : List ℕ} {s : State} {a : Added} {u : ℕ} {n : Node} → Spot toks tr s → Put (record { at = s.at; nodes = s.nodes; opened = s.opened; used = u }) tr n a tr'

@@ -9,18 +9,14 @@ use native.Mathlib.Numerals.{add-one}
 use lib.Dec.{T, eqb}
 use lib.ListN.{length, get_or}
 use borrow.Author.Tests.{ne_eqb}
+use Rattle.std.specs.Prelude.{Float, ℤ, Option, Some, None}
 use Rattle.source.specs.Bytes.{part}
 use Rattle.token.specs.Code as code
-use Rattle.numbers.specs.declared.decimal.Decimal.{Decimal}
-use Rattle.numbers.specs.declared.decimal.Decimal.TheVariants as D
-use Rattle.numbers.specs.declared.integer.Integer.{Integer}
-use Rattle.numbers.specs.declared.integer.Integer.TheVariants as I
 use Rattle.numbers.specs.Decimal.{decimal_of}
 use Rattle.numbers.specs.Integer.{integer_of}
 use Rattle.numbers.proofs.Nearest.{no_nan}
 use Rattle.literal.specs.declared.Literal.{Literal}
 use Rattle.literal.specs.declared.Literal.TheVariants as L
-use Rattle.literal.specs.declared.Lexed.TheVariants.{Value}
 use Rattle.literal.specs.Literal.{of_integer, of_decimal, lex_integer_lem, lex_float_lem, lex_string_lem, has_bits}
 use Rattle.lexer.specs.Value.{value_of, text_of, literal_in}
 use Rattle.lookahead.specs.Tokens.{code_at, start_at, end_at, bytes_at, text_before, token_of}
@@ -35,19 +31,19 @@ plain_int : (l : List ℕ) → Apt 0 (literal_in (lex_integer_lem l))
 unfolding lex_integer_lem
 plain_int l = go (integer_of l)
   where
-    go : (n : Integer) → Apt 0 (literal_in (of_integer n))
-    go (I.Value n) = record { bits = tt; text = refl }
-    go I.OutOfRange = record { bits = tt; text = refl }
+    go : (n : Option ℤ) → Apt 0 (literal_in (of_integer n))
+    go (Some n) = record { bits = tt; text = refl }
+    go None = record { bits = tt; text = refl }
 
 plain_float : (l : List ℕ) → Apt 0 (literal_in (lex_float_lem l))
 unfolding lex_float_lem
 plain_float l = go (decimal_of l) refl
   where
-    go : (d : Decimal) → decimal_of l ≡ d → Apt 0 (literal_in (of_decimal d))
-    go (D.Value x) h = record { bits = no_nan l x h; text = refl }
-    go D.NotAdmitted h = record { bits = tt; text = refl }
+    go : (d : Option Float) → decimal_of l ≡ d → Apt 0 (literal_in (of_decimal d))
+    go (Some x) h = record { bits = no_nan l x h; text = refl }
+    go None h = record { bits = tt; text = refl }
 
-plain : (l : List ℕ) (b i f t : Bool) → Apt 0 (literal_in (cond b (Value (L.Bool t)) (cond i (lex_integer_lem l) (cond f (lex_float_lem l) (Value L.None)))))
+plain : (l : List ℕ) (b i f t : Bool) → Apt 0 (literal_in (cond b (Some (L.Bool t)) (cond i (lex_integer_lem l) (cond f (lex_float_lem l) (Some L.None)))))
 plain l true i f t = record { bits = tt; text = refl }
 plain l false true f t = plain_int l
 plain l false false true t = plain_float l

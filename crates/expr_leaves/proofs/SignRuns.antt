@@ -6,7 +6,7 @@ use Prim.Native.Nat.{ℕ, suc, ◌+◌, ◌*◌, ◌-◌, ◌^◌, ◌≤◌, �
 use native.Mathlib.Omega.{arith}
 use lib.ListN.{length}
 use Rattle.token.specs.declared.NodeNumber.{NodeNumber}
-use Rattle.pyhyeon.specs.Machine.{Value, node, Kept, write}
+use Rattle.pyhyeon.specs.Machine.{Value, Kept, write}
 use Rattle.pyhyeon.specs.Action.{unary_node, wrap}
 use Rattle.leaves.specs.declared.Added.{Added}
 use Rattle.leaves.specs.declared.State.{State}
@@ -22,7 +22,6 @@ pub record Inv (toks tr₀ : List ℕ) (first k₀ : ℕ) (n₀ : NodeNumber) (s
   pub last : s.at.0 ≤ eof_at toks + 1
   pub word : 8 * (s.nodes + (k - first)) + 8 ≤ length tr
   pub count : s.nodes + (k - first) < 2 ^ 32
-  pub long : length tr ≡ length tr₀
   pub at : s₀.at ≡ s.at
   pub opened : s₀.opened ≡ s.opened
   pub used : s₀.used ≡ s.used
@@ -53,7 +52,6 @@ module _ {toks tr₀ : List ℕ} {first k₀ : ℕ} {n₀ : NodeNumber} {s₀ : 
         last = i.last;
         word = omega (arith, i.word);
         count = omega (arith, i.count);
-        long = len ∙ i.long;
         at = i.at;
         opened = i.opened;
         used = i.used;

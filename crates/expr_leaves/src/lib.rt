@@ -1,5 +1,5 @@
 // The leaves of the expressions' rules (src/parser/mod.rs): the function of each action that writes an expression's node. Their contracts are those of
-// specs/Contract.antt of `leaves`.
+// specs/Contract.antt of `leaves`. Actions whose nodes differ in the kind alone have a function each, since the contract names the action.
 #![tactic(auto)]
 
 mod chain;

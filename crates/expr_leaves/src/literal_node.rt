@@ -14,12 +14,10 @@ fn text_after(used: u32, l: Literal) -> u32
     requires { used + text_length l < 2 ^ 32 }
     ensures { result ≡ used + text_length l }
 {
-    match l {
-        Literal::Bool(_) => used,
-        Literal::Int(_) => used,
-        Literal::String(_, len) => used + len,
-        Literal::Float(_) => used,
-        Literal::None => used,
+    if let Literal::String(_, len) = l {
+        used + len
+    } else {
+        used
     }
 }
 
@@ -30,30 +28,12 @@ pub fn put_literal(src: &[u8], toks: &[u32], tree: &mut [u32], s: State) -> Adde
     requires used_value { s.used ≡ text_before src.now toks.now (s.at.0 - 1) }
     ensures { Literals src.now toks.now s tree.old result tree.new }
 {
-    let at = s.at;
-    let t = at.0 - 1;
-    let used = s.used;
-    let code = code_at(toks, TokenNumber(t));
-    let from = start_at(toks, TokenNumber(t));
-    let to = end_at(toks, TokenNumber(t));
-    let l = lexer::literal_of(src, code, from.0 as usize, to.0 as usize, used);
-    let leaf = ast::leaf_of(l, from, to);
-    let u = text_after(used, l);
-    let after = State {
-        at: at,
-        nodes: s.nodes,
-        opened: s.opened,
-        used: u,
-    };
-    put_opened(
-        toks,
-        tree,
-        leaf.kind,
-        TokenNumber(t),
-        leaf.p,
-        leaf.q,
-        leaf.r,
-        leaf.s,
-        after,
-    )
+    let t = TokenNumber(s.at.0 - 1);
+    let code = code_at(toks, t);
+    let from = start_at(toks, t);
+    let to = end_at(toks, t);
+    let l = lexer::literal_of(src, code, from.0 as usize, to.0 as usize, s.used);
+    let used = text_after(s.used, l);
+    let after = State { used, ..s };
+    put_opened(toks, tree, t, ast::leaf_of(l, from, to), after)
 }

@@ -2,6 +2,7 @@
 ghost use Rattle.std.specs.Prelude.{List, ℕ, ◌<◌};
 ghost use Rattle.leaves.specs.Contract.{Spot, Signed, Wraps, Wrapping};
 
+use ast::Content;
 use leaves::{Added, State, put_opened};
 use lookahead::code_at;
 use token::{NodeNumber, TokenNumber};
@@ -13,8 +14,8 @@ fn put_unary(toks: &[u32], tree: &mut [u32], op: TokenNumber, child: NodeNumber,
     ensures { (src : List ℕ) → Signed src toks.now op.0 child.0 s tree.old result tree.new }
 {
     let code = code_at(toks, op);
-    let number = ast::unary_op(code);
-    put_opened(toks, tree, ast::UNARY, op, number, child.0, 0, 0, s)
+    let sign = ast::unary_op(code);
+    put_opened(toks, tree, op, Content::of(ast::UNARY, sign, child.0), s)
 }
 
 // The signs from `first` up to `end` around a node, the last of them first.
@@ -29,15 +30,10 @@ pub fn wrap(
     requires { Wrapping toks.now tree.old first.0 end.0 s }
     ensures { (src : List ℕ) → Wraps src toks.now first.0 end.0 node.0 s tree.old result tree.new }
 {
-    let from = first.0;
-    let mut k = end.0;
-    let mut n = node;
-    let mut st = s;
-    while from < k {
-        k -= 1;
-        let made = put_unary(toks, tree, TokenNumber(k), n, st);
-        n = made.0;
-        st = made.1;
+    let mut made = Added(node, s);
+    for k in (first.0..end.0).rev() {
+        let Added(n, s) = made;
+        made = put_unary(toks, tree, TokenNumber(k), n, s);
     }
-    Added(n, st)
+    made
 }

@@ -20,10 +20,8 @@ use Rattle.pyhyeon.specs.Prices.{needs, gives, prices}
 use Rattle.pyhyeon.proofs.Meter.{owed}
 use Rattle.pyhyeon.proofs.Held.{Fit, Held}
 use Rattle.leaves.specs.declared.State.{State}
-use Rattle.leaves.specs.declared.Parsed.{Parsed}
-use Rattle.leaves.specs.declared.Parsed.TheVariants.{Node}
 use Rattle.lookahead.specs.Tokens.{eof_at, text_before, Tokens}
-use Rattle.leaves.specs.Contract.{Shape, a_node, a_list, Rules, Parts}
+use Rattle.leaves.specs.Contract.{Parsed, read, Shape, a_node, a_list, Rules, Parts}
 use Rattle.joint.proofs.Counts.{Counted, Pays, pays, Taking, Modest, Passed, passed_node, passed_part, passed_start, counted_rule, counted_call, counted_part}
 
 -- from a rule at s, with so many more rules to open on its token, to the node n and the state s'
@@ -106,29 +104,29 @@ went : {src toks : List ℕ} {out : Shape} {s : State} {n : NodeNumber} {s' : St
 went g = record { on = g.on; here = g.here; kept = g.kept; nodes = g.nodes; opened = g.opened; used = g.used }
 
 module _ (src toks : List ℕ) (w : Tokens src toks) {room : ℕ} {s : State} {tr : List ℕ} {a : Parsed} {tr' : List ℕ} {n : NodeNumber} {s' : State} where
-  pub after_rule : {r : Rule} → Spares r → s.at.0 < eof_at toks → Rules src toks room r a_node s tr a tr' → a ≡ Node n s' → Grown src toks (rank r + 1) s n s'
+  pub after_rule : {r : Rule} → Spares r → s.at.0 < eof_at toks → Rules src toks room r a_node s tr a tr' → a ≡ read n s' → Grown src toks (rank r + 1) s n s'
   after_rule p h reads e = grown (omega arith) (spared_of p) (counted_rule src toks w (paying p) h reads e)
 
-  pub after_call : {r : Rule} → Spares r → mem Eof (first r) ≡ false → s.at.0 ≤ eof_at toks → Parts src toks room (call r) [] a_node s tr a tr' → a ≡ Node n s' → Grown src toks (rank r + 1) s n s'
+  pub after_call : {r : Rule} → Spares r → mem Eof (first r) ≡ false → s.at.0 ≤ eof_at toks → Parts src toks room (call r) [] a_node s tr a tr' → a ≡ read n s' → Grown src toks (rank r + 1) s n s'
   after_call p outside h reads e = grown (omega arith) (spared_of p) (counted_call src toks w (paying p) outside h reads e)
 
   module _ {p : Part Action Rule} where
-    after_from : (ins : List Value) {high : ℕ} → Bounded high p → s.at.0 < eof_at toks → owed (ins ++ []) ≡ 0 → Held s.nodes (ins ++ []) → Parts src toks room p ins a_node s tr a tr' → a ≡ Node n s' → Grown src toks high s n s'
+    after_from : (ins : List Value) {high : ℕ} → Bounded high p → s.at.0 < eof_at toks → owed (ins ++ []) ≡ 0 → Held s.nodes (ins ++ []) → Parts src toks room p ins a_node s tr a tr' → a ≡ read n s' → Grown src toks high s n s'
     after_from ins t h none all reads e = grown (ltb→lt 0 (takes least p) t.some) (leb→le 1 (credit prices 0 p) t.spared) (counted_part src toks w ins (taking t) h none all reads e)
 
-    pub after_part : {high : ℕ} (m : ℕ) → Bounded high p → s.at.0 < eof_at toks → m < s.nodes → Parts src toks room p (node m ∷ []) a_node s tr a tr' → a ≡ Node n s' → Grown src toks high s n s'
+    pub after_part : {high : ℕ} (m : ℕ) → Bounded high p → s.at.0 < eof_at toks → m < s.nodes → Parts src toks room p (node m ∷ []) a_node s tr a tr' → a ≡ read n s' → Grown src toks high s n s'
     unfolding owed count Held Fit
     after_part m b h l reads e = after_from (node m ∷ []) b h refl (omega arith, tt) reads e
 
-    pub after_start : {high : ℕ} → Bounded high p → s.at.0 < eof_at toks → Parts src toks room p [] a_node s tr a tr' → a ≡ Node n s' → Grown src toks high s n s'
+    pub after_start : {high : ℕ} → Bounded high p → s.at.0 < eof_at toks → Parts src toks room p [] a_node s tr a tr' → a ≡ read n s' → Grown src toks high s n s'
     unfolding owed Held
     after_start b h reads e = after_from [] b h refl tt reads e
 
     -- a list, from nothing at hand
-    pub after_list : Modest p → s.at.0 ≤ eof_at toks → Parts src toks room p [] a_list s tr a tr' → a ≡ Node n s' → Went src toks s s'
+    pub after_list : Modest p → s.at.0 ≤ eof_at toks → Parts src toks room p [] a_list s tr a tr' → a ≡ read n s' → Went src toks s s'
     after_list t h reads e = went (passed_start src toks w t h reads e)
 
     -- a part that takes a node and gives one
-    pub after_node : (m : ℕ) → Modest p → s.at.0 ≤ eof_at toks → m < s.nodes → Parts src toks room p (node m ∷ []) a_node s tr a tr' → a ≡ Node n s' → Went src toks s s' × (n.0 < s'.nodes)
+    pub after_node : (m : ℕ) → Modest p → s.at.0 ≤ eof_at toks → m < s.nodes → Parts src toks room p (node m ∷ []) a_node s tr a tr' → a ≡ read n s' → Went src toks s s' × (n.0 < s'.nodes)
     unfolding owed count Held Fit
     after_node m t h l reads e = let g = passed_part src toks w (node m ∷ []) t h refl (omega arith, tt) reads e in (went g, passed_node g)

@@ -17,6 +17,8 @@ use Rattle.grammar.specs.Descent.{Answer, done, no, deep, stuck, Walk, begins, n
 use Rattle.grammar.specs.Check.{low}
 use Rattle.grammar.proofs.Step.{descend_is, many_is, list_is}
 use Rattle.grammar.proofs.Whole.{Sound, tested}
+use Rattle.std.specs.Prelude.{Ok, Err}
+use Rattle.std.specs.Result.{IsErrAnd}
 use Rattle.token.specs.declared.NodeNumber.{NodeNumber}
 use Rattle.pyhyeon.specs.Symbol.{symbols}
 use Rattle.pyhyeon.specs.Machine.{Value}
@@ -25,10 +27,12 @@ use Rattle.pyhyeon.specs.Rules.{Rule}
 use Rattle.pyhyeon.specs.Tables.{joined, first, opens, pyhyeon}
 use Rattle.pyhyeon.proofs.Language.{language}
 use Rattle.leaves.specs.declared.State.{State}
-use Rattle.leaves.specs.declared.Parsed.{Parsed}
-use Rattle.leaves.specs.declared.Parsed.TheVariants.{Node, Refused}
+use Rattle.leaves.specs.declared.Added.{Added}
+use Rattle.leaves.specs.declared.Refused.{Refused}
 use Rattle.lookahead.specs.Tokens.{eof_at, text_before, tokens_of, symbol_at}
-use Rattle.leaves.specs.Contract.{past, kept, state, asked_number, Shape, a_node, Frame, Told, told_node, told_no, told_deep, Rules, Comes, Parts}
+use Rattle.source.specs.declared.refusal.Reason.{Reason}
+use Rattle.source.specs.declared.refusal.Reason.TheVariants as reason
+use Rattle.leaves.specs.Contract.{Parsed, read, refused, past, kept, state, asked_reason, Shape, a_node, Frame, Told, told_node, told_no, told_deep, Rules, Comes, Parts}
 use Rattle.leaves.proofs.Frames.{frame_none, frame_then}
 use Rattle.lookahead.proofs.Tokens.{symbols_length, symbols_at, sees_at}
 
@@ -36,26 +40,38 @@ use Rattle.lookahead.proofs.Tokens.{symbols_length, symbols_at, sees_at}
 pub good : (r : Rule) → Sound pyhyeon r
 good r = tested pyhyeon r (language.passes r)
 
+-- answers that are one and the same hold the same
+pub read_same : {n m : NodeNumber} {s t : State} → read n s ≡ read m t → (n ≡ m) × (s ≡ t)
+read_same {n} {m} {s} {t} e = let d : ◌≡◌ {A = Added} (record { 0 = n; 1 = s }) (record { 0 = m; 1 = t }) = cc in (ap (λ (r : Added). r.0) d, ap (λ (r : Added). r.1) d)
+
+pub refused_same : {k l : Reason} {s t : State} → refused k s ≡ refused l t → (k ≡ l) × (s ≡ t)
+refused_same {k} {l} {s} {t} e = let d : ◌≡◌ {A = Refused} (record { 0 = k; 1 = s }) (record { 0 = l; 1 = t }) = cc in (ap (λ (r : Refused). r.0) d, ap (λ (r : Refused). r.1) d)
+
+-- what `?` hands on is the refusal that it met
+pub handed_on : {e : Refused} (r : Parsed) → IsErrAnd r (λ y. y ≡ e) → r ≡ Err e
+handed_on (Ok x) k = absurd k
+handed_on (Err y) k = rw k refl
+
 -- an answer that is a node tells what the descent came to
-pub is_node : {src toks : List ℕ} {out : Shape} {vs : List Value} {x : Answer (machine src (tokens_of src toks))} {r : Parsed} {tr : List ℕ} {n : NodeNumber} {s : State} → Told src toks out vs x r tr → r ≡ Node n s →
+pub is_node : {src toks : List ℕ} {out : Shape} {vs : List Value} {x : Answer (machine src (tokens_of src toks))} {r : Parsed} {tr : List ℕ} {n : NodeNumber} {s : State} → Told src toks out vs x r tr → r ≡ read n s →
     x ≡ done s.opened (state src toks s tr (out n.0 s.nodes ∷ vs))
-is_node (told_node n s tr u) e = cc
+is_node (told_node n s tr u) e = let d = read_same e in rw (d.0, d.1) refl
 is_node (told_no asked s tr ws u) e = cc
 is_node (told_deep s tr ws u) e = cc
 
 -- and the text before its token is counted
-pub is_used : {src toks : List ℕ} {out : Shape} {vs : List Value} {x : Answer (machine src (tokens_of src toks))} {r : Parsed} {tr : List ℕ} {n : NodeNumber} {s : State} → Told src toks out vs x r tr → r ≡ Node n s →
+pub is_used : {src toks : List ℕ} {out : Shape} {vs : List Value} {x : Answer (machine src (tokens_of src toks))} {r : Parsed} {tr : List ℕ} {n : NodeNumber} {s : State} → Told src toks out vs x r tr → r ≡ read n s →
     s.used ≡ text_before src toks s.at.0
-is_used {s = s} (told_node n s₁ tr u) e = let d : s₁ ≡ s = cc in rw (← d) u
+is_used {s = s} (told_node n s₁ tr u) e = rw (← (read_same e).1) u
 is_used (told_no asked s tr ws u) e = let z : ◌≡◌ {A = ℕ} 0 1 = cc in absurd (omega arith)
 is_used (told_deep s tr ws u) e = let z : ◌≡◌ {A = ℕ} 0 1 = cc in absurd (omega arith)
 
 -- the words that stay, through an answer that is known
 module _ {src toks : List ℕ} {room : ℕ} {p : Part Action Rule} {out : Shape} {vs ws : List Value} {s : State} {tr : List ℕ} {b : Parsed} {tr₁ : List ℕ} {s₁ : State} where
-  frame_node : {n : NodeNumber} {m : ℕ} {t : List ℕ} → Comes src toks room p out vs ws s tr b tr₁ → b ≡ Node n s₁ → Frame s₁.nodes tr₁ m t → Frame s.nodes tr m t
+  frame_node : {n : NodeNumber} {m : ℕ} {t : List ℕ} → Comes src toks room p out vs ws s tr b tr₁ → b ≡ read n s₁ → Frame s₁.nodes tr₁ m t → Frame s.nodes tr m t
   frame_node c e f = frame_then (rw e at c.frame) f
 
-  frame_stop : {k : ℕ} → Comes src toks room p out vs ws s tr b tr₁ → b ≡ Refused k s₁ → Frame s.nodes tr s₁.nodes tr₁
+  frame_stop : {k : Reason} → Comes src toks room p out vs ws s tr b tr₁ → b ≡ refused k s₁ → Frame s.nodes tr s₁.nodes tr₁
   frame_stop c e = rw e at c.frame
 
 infixr 40 ◌⨟◌
@@ -204,7 +220,7 @@ module _ {src toks : List ℕ} {room : ℕ} {out : Shape} {vs : List Value} {a :
   act_then {s = s} {s' = s'} p e o f c = record { told = rw (p, e, o) c.told; frame = frame_then f c.frame }
 
   -- a part that code of its own reads
-  pub part_then : {p q : Part Action Rule} {ins : List Value} {s s₁ : State} {tr tr₁ : List ℕ} {ws : List Value} {b : Parsed} {n : NodeNumber} {mid : Shape} → Parts src toks room p ins mid s tr b tr₁ → b ≡ Node n s₁ →
+  pub part_then : {p q : Part Action Rule} {ins : List Value} {s s₁ : State} {tr tr₁ : List ℕ} {ws : List Value} {b : Parsed} {n : NodeNumber} {mid : Shape} → Parts src toks room p ins mid s tr b tr₁ → b ≡ read n s₁ →
       Comes src toks room q out vs (mid n.0 s₁.nodes ∷ ws) s₁ tr₁ a t → Comes src toks room (p ⨾ q) out vs (ins ++ ws) s tr a t
   unfolding walk seq_d then_d
   part_then {ws = ws} r e c = record { told = rw (is_node (r.comes ws).told e) c.told; frame = frame_node (r.comes ws) e c.frame }
@@ -215,7 +231,7 @@ module _ {src toks : List ℕ} {room : ℕ} {out : Shape} {vs : List Value} {a :
   flat {p} {q} {s} {tr} {ws} c = record { told = rw (regroup src toks room p q s.opened (state src toks s tr ws)) at c.told; frame = c.frame }
 
   -- a part that code of its own reads, at the head of a longer one
-  pub flat_then : {p q : Part Action Rule} {ins : List Value} {s s₁ : State} {tr tr₁ : List ℕ} {ws : List Value} {b : Parsed} {n : NodeNumber} {mid : Shape} → Parts src toks room p ins mid s tr b tr₁ → b ≡ Node n s₁ →
+  pub flat_then : {p q : Part Action Rule} {ins : List Value} {s s₁ : State} {tr tr₁ : List ℕ} {ws : List Value} {b : Parsed} {n : NodeNumber} {mid : Shape} → Parts src toks room p ins mid s tr b tr₁ → b ≡ read n s₁ →
       Comes src toks room q out vs (mid n.0 s₁.nodes ∷ ws) s₁ tr₁ a t → Comes src toks room (p ⨟ q) out vs (ins ++ ws) s tr a t
   unfolding then_d
   flat_then {p} {q} {ins} {s} {tr = tr} {ws = ws} r e c = record { told = rw (regroup src toks room p q s.opened (state src toks s tr (ins ++ ws)), is_node (r.comes ws).told e) c.told; frame = frame_node (r.comes ws) e c.frame }
@@ -264,7 +280,7 @@ module _ {src toks : List ℕ} {room : ℕ} {r : Rule} {out : Shape} {s : State}
   open_plain o c = record { told = λ vs. rw (descend_is pyhyeon good room r s.opened (state src toks s tr vs), o) (c vs).told; frame = (c []).frame }
 
   -- E and Block take of the room
-  pub open_deep : opens r ≡ true → s.used ≡ text_before src toks s.at.0 → room ≡ 0 → Rules src toks room r out s tr (Refused 13 s) tr
+  pub open_deep : opens r ≡ true → s.used ≡ text_before src toks s.at.0 → room ≡ 0 → Rules src toks room r out s tr (refused reason.TooDeep s) tr
   unfolding enter
   open_deep o u z = record { told = λ vs. rw (descend_is pyhyeon good room r s.opened (state src toks s tr vs), o, z) (told_deep s tr vs u); frame = frame_none }
 
@@ -276,7 +292,7 @@ module _ {src toks : List ℕ} {room : ℕ} {r : Rule} {out : Shape} {s : State}
       go zero nz c = absurd (nz refl)
       go (suc m) nz c = let e : suc m - 1 ≡ m = omega arith in record { told = λ vs. rw (descend_is pyhyeon good (suc m) r s.opened (state src toks s tr vs), o) (rw e at (c vs).told); frame = (c []).frame }
 
-stop : {src toks : List ℕ} {out mid : Shape} {vs us : List Value} {x : Answer (machine src (tokens_of src toks))} {b : Parsed} {t : List ℕ} {k : ℕ} {s₁ : State} (w : Walk (machine src (tokens_of src toks))) → Told src toks mid us x b t → b ≡ Refused k s₁ → Told src toks out vs (then_d x w) (Refused k s₁) t
+stop : {src toks : List ℕ} {out mid : Shape} {vs us : List Value} {x : Answer (machine src (tokens_of src toks))} {b : Parsed} {t : List ℕ} {k : Reason} {s₁ : State} (w : Walk (machine src (tokens_of src toks))) → Told src toks mid us x b t → b ≡ refused k s₁ → Told src toks out vs (then_d x w) (refused k s₁) t
 unfolding then_d
 stop w (told_node n s tr u) e = absurd (let z : ◌≡◌ {A = ℕ} 0 1 = cc in omega arith)
 stop w (told_no asked s tr ws u) e = rw (← e) (told_no asked s tr ws u)
@@ -285,32 +301,32 @@ stop w (told_deep s tr ws u) e = rw (← e) (told_deep s tr ws u)
 -- where a part ends: the node, or the refusal
 module _ {src toks : List ℕ} {room : ℕ} {out : Shape} {vs : List Value} where
   pub act_last : {x : Action} {s s' : State} {tr tr' : List ℕ} {ws : List Value} {n : NodeNumber} → perform src (tokens_of src toks) x (kept s tr ws) ≡ kept s' tr' (out n.0 s'.nodes ∷ vs) → s.at ≡ s'.at → s.opened ≡ s'.opened → Frame s.nodes tr s'.nodes tr' → s'.used ≡ text_before src toks s'.at.0 →
-      Comes src toks room (act x) out vs ws s tr (Node n s') tr'
+      Comes src toks room (act x) out vs ws s tr (read n s') tr'
   unfolding walk same_d act_p state
   act_last {s' = s'} {tr' = tr'} {n = n} p e o f u = record { told = rw (p, e, o) (told_node n s' tr' u); frame = f }
 
   -- nothing, after a node
-  pub skip_end : {s : State} {tr : List ℕ} {n : NodeNumber} → s.used ≡ text_before src toks s.at.0 → Comes src toks room skip out vs (out n.0 s.nodes ∷ vs) s tr (Node n s) tr
+  pub skip_end : {s : State} {tr : List ℕ} {n : NodeNumber} → s.used ≡ text_before src toks s.at.0 → Comes src toks room skip out vs (out n.0 s.nodes ∷ vs) s tr (read n s) tr
   unfolding walk same_d skip_p
   skip_end {s} {tr} {n} u = record { told = told_node n s tr u; frame = frame_none }
 
   pub turn_end : {p : Part Action Rule} {s : State} {tr : List ℕ} {n : NodeNumber} → T (low pyhyeon 100 100 (many p)) → s.at.0 ≤ eof_at toks → mem (symbol_at src toks s.at.0) (begins first p) ≡ false → s.used ≡ text_before src toks s.at.0 →
-      Comes src toks room (many p) out vs (out n.0 s.nodes ∷ vs) s tr (Node n s) tr
+      Comes src toks room (many p) out vs (out n.0 s.nodes ∷ vs) s tr (read n s) tr
   turn_end {p} {s} {tr} {n} l h e u = record { told = rw (many_none src toks room s tr (out n.0 s.nodes ∷ vs) h p l e) (told_node n s tr u); frame = frame_none }
 
-  pub tok_not : {set : List ℕ} {k : ℕ} {q : Part Action Rule} {s : State} {tr : List ℕ} {ws : List Value} → s.at.0 ≤ eof_at toks → s.used ≡ text_before src toks s.at.0 → mem (symbol_at src toks s.at.0) set ≡ false → asked_number set ≡ k →
-      Comes src toks room (tok set ⨾ q) out vs ws s tr (Refused k s) tr
+  pub tok_not : {set : List ℕ} {k : Reason} {q : Part Action Rule} {s : State} {tr : List ℕ} {ws : List Value} → s.at.0 ≤ eof_at toks → s.used ≡ text_before src toks s.at.0 → mem (symbol_at src toks s.at.0) set ≡ false → asked_reason set ≡ k →
+      Comes src toks room (tok set ⨾ q) out vs ws s tr (refused k s) tr
   unfolding walk seq_d then_d same_d
   tok_not {set} {s = s} {tr = tr} {ws = ws} h u e a = record { told = rw (take_unseen src toks set s tr ws h e, ← a) (told_no set s tr ws u); frame = frame_none }
 
-  pub part_stop : {p q : Part Action Rule} {ins : List Value} {s s₁ : State} {tr tr₁ : List ℕ} {b : Parsed} {k : ℕ} {mid : Shape} (ws : List Value) → Parts src toks room p ins mid s tr b tr₁ → b ≡ Refused k s₁ →
-      Comes src toks room (p ⨾ q) out vs (ins ++ ws) s tr (Refused k s₁) tr₁
+  pub part_stop : {p q : Part Action Rule} {ins : List Value} {s s₁ : State} {tr tr₁ : List ℕ} {b : Parsed} {k : Reason} {mid : Shape} (ws : List Value) → Parts src toks room p ins mid s tr b tr₁ → b ≡ refused k s₁ →
+      Comes src toks room (p ⨾ q) out vs (ins ++ ws) s tr (refused k s₁) tr₁
   unfolding walk seq_d
   part_stop {q = q} ws r e = record { told = stop (on src toks room q) (r.comes ws).told e; frame = frame_stop (r.comes ws) e }
 
 module _ {src toks : List ℕ} {room : ℕ} {out : Shape} {vs : List Value} where
-  pub flat_stop : {p : Part Action Rule} {ins : List Value} {s s₁ : State} {tr tr₁ : List ℕ} {b : Parsed} {k : ℕ} {mid : Shape} (q : Part Action Rule) (ws : List Value) → Parts src toks room p ins mid s tr b tr₁ → b ≡ Refused k s₁ →
-      Comes src toks room (p ⨟ q) out vs (ins ++ ws) s tr (Refused k s₁) tr₁
+  pub flat_stop : {p : Part Action Rule} {ins : List Value} {s s₁ : State} {tr tr₁ : List ℕ} {b : Parsed} {k : Reason} {mid : Shape} (q : Part Action Rule) (ws : List Value) → Parts src toks room p ins mid s tr b tr₁ → b ≡ refused k s₁ →
+      Comes src toks room (p ⨟ q) out vs (ins ++ ws) s tr (refused k s₁) tr₁
   flat_stop {p} {ins} {s} {tr = tr} q ws r e = record { told = rw (regroup src toks room p q s.opened (state src toks s tr (ins ++ ws))) (stop (on src toks room q) (r.comes ws).told e); frame = frame_stop (r.comes ws) e }
 
 -- a call of a rule
@@ -319,10 +335,10 @@ module _ {src toks : List ℕ} {room : ℕ} {r : Rule} {out : Shape} {s : State}
   unfolding walk by_d state
   called h e c = record { comes = λ vs. record { told = rw (sees_at src toks (first r) s.at.0 h ∙ e) (c.told vs); frame = c.frame } }
 
-  pub no_call : {k : ℕ} → s.at.0 ≤ eof_at toks → s.used ≡ text_before src toks s.at.0 → mem (symbol_at src toks s.at.0) (first r) ≡ false → asked_number (first r) ≡ k → Parts src toks room (call r) [] out s tr (Refused k s) tr
+  pub no_call : {k : Reason} → s.at.0 ≤ eof_at toks → s.used ≡ text_before src toks s.at.0 → mem (symbol_at src toks s.at.0) (first r) ≡ false → asked_reason (first r) ≡ k → Parts src toks room (call r) [] out s tr (refused k s) tr
   unfolding walk by_d state
   no_call h u e a = record { comes = λ vs. record { told = rw (sees_at src toks (first r) s.at.0 h ∙ e, ← a) (told_no (first r) s tr vs u); frame = frame_none } }
 
 -- the same where more was to follow, and so any shape will do
-pub not_called : {src toks : List ℕ} {room : ℕ} {r : Rule} {s : State} {tr : List ℕ} {k : ℕ} → s.at.0 ≤ eof_at toks → s.used ≡ text_before src toks s.at.0 → mem (symbol_at src toks s.at.0) (first r) ≡ false → asked_number (first r) ≡ k → Parts src toks room (call r) [] a_node s tr (Refused k s) tr
+pub not_called : {src toks : List ℕ} {room : ℕ} {r : Rule} {s : State} {tr : List ℕ} {k : Reason} → s.at.0 ≤ eof_at toks → s.used ≡ text_before src toks s.at.0 → mem (symbol_at src toks s.at.0) (first r) ≡ false → asked_reason (first r) ≡ k → Parts src toks room (call r) [] a_node s tr (refused k s) tr
 not_called = no_call

@@ -16,14 +16,14 @@ use Rattle.pyhyeon.specs.Action.{Action, machine}
 use Rattle.pyhyeon.specs.Rules.{Rule}
 use Rattle.pyhyeon.specs.Tables.{first}
 use Rattle.leaves.specs.declared.State.{State}
-use Rattle.leaves.specs.declared.Parsed.{Parsed}
-use Rattle.leaves.specs.declared.Parsed.TheVariants.{Refused}
 use Rattle.lookahead.specs.Tokens.{eof_at, text_before, tokens_of, symbol_at}
-use Rattle.leaves.specs.Contract.{state, asked_number, Shape, Told, told_node, told_no, told_deep, Comes}
+use Rattle.source.specs.declared.refusal.Reason.{Reason}
+use Rattle.source.specs.declared.refusal.Reason.TheVariants as reason
+use Rattle.leaves.specs.Contract.{Parsed, refused, state, asked_reason, Shape, Told, told_node, told_no, told_deep, Comes}
 use Rattle.leaves.proofs.Frames.{frame_none}
 use Rattle.lookahead.proofs.Tokens.{sees_at}
 use Rattle.lookahead.proofs.Tests.{or_true, among_second}
-use Rattle.joint.proofs.Chain.{◌⨟◌, on, regroup}
+use Rattle.joint.proofs.Chain.{refused_same, ◌⨟◌, on, regroup}
 
 module _ (src toks : List ℕ) where
   -- the last way of a choice is taken: it may be absent, or its token stands next
@@ -74,22 +74,22 @@ module _ (src toks : List ℕ) (asked set : List ℕ) (n : ℕ) (st : St (machin
   abbrev at_hand : St (machine src (tokens_of src toks))
   at_hand = record { rest = st.rest; kept = record { at = st.kept.at; nodes = st.kept.nodes; values = ws } }
 
-  asks_other : {out : Shape} {vs : List Value} {x : Answer (machine src (tokens_of src toks))} {a : Parsed} {t : List ℕ} → asked_number asked ≡ asked_number set → x ≡ no asked n st → Told src toks out vs x a t → Told src toks out vs (no set n at_hand) a t
+  asks_other : {out : Shape} {vs : List Value} {x : Answer (machine src (tokens_of src toks))} {a : Parsed} {t : List ℕ} → asked_reason asked ≡ asked_reason set → x ≡ no asked n st → Told src toks out vs x a t → Told src toks out vs (no set n at_hand) a t
   unfolding state
   asks_other k e (told_node m s tr u) = absurd (let z : ◌≡◌ {A = ℕ} 0 1 = cc in omega arith)
   asks_other k e (told_no asked₁ s tr ws₁ u) =
       let a : asked₁ ≡ asked = cc in
       let o : s.opened ≡ n = cc in
       let i : state src toks s tr ws₁ ≡ st = cc in
-      rw (ap asked_number a ∙ k, ← o, ← i) (told_no set s tr ws u)
+      rw (ap asked_reason a ∙ k, ← o, ← i) (told_no set s tr ws u)
   asks_other k e (told_deep s tr ws₁ u) = absurd (let z : ◌≡◌ {A = ℕ} 0 1 = cc in omega arith)
 
 -- what was asked for, by an answer of 14
-is_no : {src toks : List ℕ} {out : Shape} {vs : List Value} {x : Answer (machine src (tokens_of src toks))} {r : Parsed} {tr : List ℕ} {s : State} → Told src toks out vs x r tr → r ≡ Refused 14 s →
-    (asked : List ℕ) × (ws : List Value) × (asked_number asked ≡ 14) × (x ≡ no asked s.opened (state src toks s tr ws))
+is_no : {src toks : List ℕ} {out : Shape} {vs : List Value} {x : Answer (machine src (tokens_of src toks))} {r : Parsed} {tr : List ℕ} {s : State} → Told src toks out vs x r tr → r ≡ refused reason.Misfit s →
+    (asked : List ℕ) × (ws : List Value) × (asked_reason asked ≡ reason.Misfit) × (x ≡ no asked s.opened (state src toks s tr ws))
 is_no (told_node n s tr u) e = absurd (let z : ◌≡◌ {A = ℕ} 0 1 = cc in omega arith)
-is_no {s = s} (told_no asked s₁ tr ws u) e = let d : s₁ ≡ s = cc in (asked, ws, cc, rw d)
-is_no (told_deep s tr ws u) e = absurd (let z : ◌≡◌ {A = ℕ} 13 14 = cc in omega arith)
+is_no (told_no asked s₁ tr ws u) e = let d = refused_same e in (asked, ws, d.0, rw d.1)
+is_no (told_deep s tr ws u) e = absurd (let d = (refused_same e).0 in let z : ◌≡◌ {A = ℕ} 13 14 = cc in omega arith)
 
 -- neither way of a choice starts
 neither : (src toks : List ℕ) (room : ℕ) (p p' : Part Action Rule) (s : State) (tr : List ℕ) (ws : List Value) → s.at.0 ≤ eof_at toks → mem (symbol_at src toks s.at.0) (begins first p) ≡ false → null p' ≡ false → mem (symbol_at src toks s.at.0) (begins first p') ≡ false →
@@ -98,21 +98,21 @@ unfolding walk or_d state
 neither src toks room p p' s tr ws h e n f = rw (sees_at src toks (begins first p) s.at.0 h ∙ e, n, sees_at src toks (begins first p') s.at.0 h ∙ f)
 
 module _ {src toks : List ℕ} {room : ℕ} {out : Shape} {vs : List Value} {p p' : Part Action Rule} {s : State} {tr : List ℕ} {ws : List Value} where
-  pub or_neither : {k : ℕ} → s.at.0 ≤ eof_at toks → s.used ≡ text_before src toks s.at.0 → mem (symbol_at src toks s.at.0) (begins first p) ≡ false → null p' ≡ false → mem (symbol_at src toks s.at.0) (begins first p') ≡ false →
-      asked_number (begins first p ++ begins first p') ≡ k → Comes src toks room (p ∕ p') out vs ws s tr (Refused k s) tr
+  pub or_neither : {k : Reason} → s.at.0 ≤ eof_at toks → s.used ≡ text_before src toks s.at.0 → mem (symbol_at src toks s.at.0) (begins first p) ≡ false → null p' ≡ false → mem (symbol_at src toks s.at.0) (begins first p') ≡ false →
+      asked_reason (begins first p ++ begins first p') ≡ k → Comes src toks room (p ∕ p') out vs ws s tr (refused k s) tr
   or_neither h u e n f a = record { told = rw (neither src toks room p p' s tr ws h e n f, ← a) (told_no (begins first p ++ begins first p') s tr ws u); frame = frame_none }
 
   -- the same where code of its own reads the last way, which refuses here
   or_stop : {a : Parsed} {t : List ℕ} → s.at.0 ≤ eof_at toks → mem (symbol_at src toks s.at.0) (begins first p) ≡ false → null p' ≡ false → mem (symbol_at src toks s.at.0) (begins first p') ≡ false →
-      asked_number (begins first p ++ begins first p') ≡ 14 → Comes src toks room p' out vs ws s tr (Refused 14 s) tr → Comes src toks room p' out vs ws s tr a t → Comes src toks room (p ∕ p') out vs ws s tr a t
+      asked_reason (begins first p ++ begins first p') ≡ reason.Misfit → Comes src toks room p' out vs ws s tr (refused reason.Misfit s) tr → Comes src toks room p' out vs ws s tr a t → Comes src toks room (p ∕ p') out vs ws s tr a t
   unfolding state
   or_stop h e n f k c c' =
       let (asked, us, i, x) = is_no c.told refl in
       record { told = rw (neither src toks room p p' s tr ws h e n f) (asks_other src toks asked (begins first p ++ begins first p') s.opened (state src toks s tr us) ws (i ∙ sym k) x c'.told); frame = c'.frame }
 
   -- so code of its own reads the last way, whatever stands next
-  pub or_last : {a : Parsed} {t : List ℕ} → s.at.0 ≤ eof_at toks → mem (symbol_at src toks s.at.0) (begins first p) ≡ false → null p' ≡ false → asked_number (begins first p ++ begins first p') ≡ 14 →
-      (mem (symbol_at src toks s.at.0) (begins first p') ≡ false → Comes src toks room p' out vs ws s tr (Refused 14 s) tr) → Comes src toks room p' out vs ws s tr a t → Comes src toks room (p ∕ p') out vs ws s tr a t
+  pub or_last : {a : Parsed} {t : List ℕ} → s.at.0 ≤ eof_at toks → mem (symbol_at src toks s.at.0) (begins first p) ≡ false → null p' ≡ false → asked_reason (begins first p ++ begins first p') ≡ reason.Misfit →
+      (mem (symbol_at src toks s.at.0) (begins first p') ≡ false → Comes src toks room p' out vs ws s tr (refused reason.Misfit s) tr) → Comes src toks room p' out vs ws s tr a t → Comes src toks room (p ∕ p') out vs ws s tr a t
   or_last {a} {t} h e n k c c' = test (mem (symbol_at src toks s.at.0) (begins first p')) refl
     where
       test : (b : Bool) → mem (symbol_at src toks s.at.0) (begins first p') ≡ b → Comes src toks room (p ∕ p') out vs ws s tr a t

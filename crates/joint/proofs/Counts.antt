@@ -29,10 +29,8 @@ use Rattle.pyhyeon.proofs.Meter.{owed, counted, meter}
 use Rattle.pyhyeon.proofs.Held.{Fit, Held, keeps}
 use Rattle.pyhyeon.proofs.Limits.{frugal}
 use Rattle.leaves.specs.declared.State.{State}
-use Rattle.leaves.specs.declared.Parsed.{Parsed}
-use Rattle.leaves.specs.declared.Parsed.TheVariants.{Node}
 use Rattle.lookahead.specs.Tokens.{eof_at, text_before, tokens_of, symbol_at, Tokens}
-use Rattle.leaves.specs.Contract.{state, Shape, a_node, a_growing, Told, Rules, Parts}
+use Rattle.leaves.specs.Contract.{Parsed, read, state, Shape, a_node, a_growing, Told, Rules, Parts}
 use Rattle.lookahead.proofs.Tokens.{sees_at, before_eof}
 use Rattle.joint.proofs.Chain.{is_node, is_used}
 
@@ -117,7 +115,7 @@ module _ (src toks : List ℕ) (w : Tokens src toks) where
   left i h = before_drop Eof i (symbols src (tokens_of src toks)) (rw w.ends h) ∙ w.ends
 
   counted_told : (r : Rule) (room : ℕ) (out : Shape) (s : State) (tr : List ℕ) {a : Parsed} {tr' : List ℕ} {n : NodeNumber} {s' : State} → Pays r → s.at.0 < eof_at toks →
-      Told src toks out [] (descend pyhyeon room r s.opened (state src toks s tr [])) a tr' → a ≡ Node n s' → Counted src toks 1 (rank r + 1) (gives r) out s n s'
+      Told src toks out [] (descend pyhyeon room r s.opened (state src toks s tr [])) a tr' → a ≡ read n s' → Counted src toks 1 (rank r + 1) (gives r) out s n s'
   unfolding state meter counted owed Held
   counted_told r room out s tr {tr' = tr'} {n = n} {s' = s'} (pays l k) h told e =
       let x : descend pyhyeon room r s.opened (state src toks s tr []) ≡ done s'.opened (state src toks s' tr' (out n.0 s'.nodes ∷ [])) = is_node told e in
@@ -138,12 +136,12 @@ module _ (src toks : List ℕ) (w : Tokens src toks) where
 
   -- a rule
   pub counted_rule : {r : Rule} {room : ℕ} {out : Shape} {s : State} {tr : List ℕ} {a : Parsed} {tr' : List ℕ} {n : NodeNumber} {s' : State} → Pays r → s.at.0 < eof_at toks →
-      Rules src toks room r out s tr a tr' → a ≡ Node n s' → Counted src toks 1 (rank r + 1) (gives r) out s n s'
+      Rules src toks room r out s tr a tr' → a ≡ read n s' → Counted src toks 1 (rank r + 1) (gives r) out s n s'
   counted_rule {r} {room} {out} {s} {tr} p h reads e = counted_told r room out s tr p h (reads.told []) e
 
   -- a call that gave a value was made on a token that can begin the rule
   pub counted_call : {r : Rule} {room : ℕ} {out : Shape} {s : State} {tr : List ℕ} {a : Parsed} {tr' : List ℕ} {n : NodeNumber} {s' : State} → Pays r → mem Eof (first r) ≡ false → s.at.0 ≤ eof_at toks →
-      Parts src toks room (call r) [] out s tr a tr' → a ≡ Node n s' → Counted src toks 1 (rank r + 1) (gives r) out s n s'
+      Parts src toks room (call r) [] out s tr a tr' → a ≡ read n s' → Counted src toks 1 (rank r + 1) (gives r) out s n s'
   unfolding walk by_d state
   counted_call {r} {room} {out} {s} {tr} {a} {tr'} {n} {s'} p outside h reads e = go (mem (symbol_at src toks s.at.0) (first r)) refl
     where
@@ -154,7 +152,7 @@ module _ (src toks : List ℕ) (w : Tokens src toks) where
   -- a part with the values `ins` at hand: on a token before the end, or where no rule was opened on the token at hand
   module _ (ins : List Value) {p : Part Action Rule} {room : ℕ} {out : Shape} {s : State} {tr : List ℕ} {a : Parsed} {tr' : List ℕ} {n : NodeNumber} {s' : State} where
     counts : {high : ℕ} → T (clean pyhyeon Eof p) → T (low pyhyeon 10 high p) → T (afford prices 0 p) → s.at.0 ≤ eof_at toks → Stands pyhyeon prices frugal (meter src (tokens_of src toks)) p high (state src toks s tr (ins ++ [])) →
-        owed (ins ++ []) ≡ 0 → Held s.nodes (ins ++ []) → Parts src toks room p ins out s tr a tr' → a ≡ Node n s' → Counted src toks (takes least p) high (credit prices 0 p) out s n s'
+        owed (ins ++ []) ≡ 0 → Held s.nodes (ins ++ []) → Parts src toks room p ins out s tr a tr' → a ≡ read n s' → Counted src toks (takes least p) high (credit prices 0 p) out s n s'
     unfolding state meter counted owed Held
     counts {high} tidy lower cost h stands none all reads e =
         let st = state src toks s tr (ins ++ []) in
@@ -174,7 +172,7 @@ module _ (src toks : List ℕ) (w : Tokens src toks) where
           used = is_used (reads.comes []).told e;
         }
 
-    pub counted_part : {high : ℕ} → Taking high p → s.at.0 < eof_at toks → owed (ins ++ []) ≡ 0 → Held s.nodes (ins ++ []) → Parts src toks room p ins out s tr a tr' → a ≡ Node n s' →
+    pub counted_part : {high : ℕ} → Taking high p → s.at.0 < eof_at toks → owed (ins ++ []) ≡ 0 → Held s.nodes (ins ++ []) → Parts src toks room p ins out s tr a tr' → a ≡ read n s' →
         Counted src toks (takes least p) high (credit prices 0 p) out s n s'
     unfolding state
     counted_part {high} t h none all reads e =
@@ -182,7 +180,7 @@ module _ (src toks : List ℕ) (w : Tokens src toks) where
         let b = left s.at.0 (omega arith) in
         counts t.tidy t.lower t.pays (omega arith) (on_token (leb→le high 10 t.few) some (omega arith)) none all reads e
 
-    pub counted_fresh : Modest p → s.at.0 ≤ eof_at toks → owed (ins ++ []) ≡ 0 → Held s.nodes (ins ++ []) → Parts src toks room p ins out s tr a tr' → a ≡ Node n s' →
+    pub counted_fresh : Modest p → s.at.0 ≤ eof_at toks → owed (ins ++ []) ≡ 0 → Held s.nodes (ins ++ []) → Parts src toks room p ins out s tr a tr' → a ≡ read n s' →
         Counted src toks (takes least p) 10 (credit prices 0 p) out s n s'
     counted_fresh t h none all reads e = counts t.tidy t.lower t.pays h fresh none all reads e
 
@@ -195,33 +193,33 @@ module _ {src toks : List ℕ} {some spare : ℕ} {out : Shape} {s : State} {n :
 
 module _ (src toks : List ℕ) (w : Tokens src toks) {room : ℕ} {out : Shape} {s : State} {tr : List ℕ} {a : Parsed} {tr' : List ℕ} {n : NodeNumber} {s' : State} where
   -- a rule, and a call of one
-  pub came_rule : {r : Rule} → Pays r → s.at.0 < eof_at toks → Rules src toks room r out s tr a tr' → a ≡ Node n s' → Came src toks (rank r + 1) out s n s'
+  pub came_rule : {r : Rule} → Pays r → s.at.0 < eof_at toks → Rules src toks room r out s tr a tr' → a ≡ read n s' → Came src toks (rank r + 1) out s n s'
   came_rule p h reads e = came (omega arith) (counted_rule src toks w p h reads e)
 
-  pub came_call : {r : Rule} → Pays r → mem Eof (first r) ≡ false → s.at.0 ≤ eof_at toks → Parts src toks room (call r) [] out s tr a tr' → a ≡ Node n s' → Came src toks (rank r + 1) out s n s'
+  pub came_call : {r : Rule} → Pays r → mem Eof (first r) ≡ false → s.at.0 ≤ eof_at toks → Parts src toks room (call r) [] out s tr a tr' → a ≡ read n s' → Came src toks (rank r + 1) out s n s'
   came_call p outside h reads e = came (omega arith) (counted_call src toks w p outside h reads e)
 
   module _ {p : Part Action Rule} where
     -- a part that takes a token, and is read on one before the end
-    pub came_part : (ins : List Value) {high : ℕ} → Taking high p → s.at.0 < eof_at toks → owed (ins ++ []) ≡ 0 → Held s.nodes (ins ++ []) → Parts src toks room p ins out s tr a tr' → a ≡ Node n s' → Came src toks high out s n s'
+    pub came_part : (ins : List Value) {high : ℕ} → Taking high p → s.at.0 < eof_at toks → owed (ins ++ []) ≡ 0 → Held s.nodes (ins ++ []) → Parts src toks room p ins out s tr a tr' → a ≡ read n s' → Came src toks high out s n s'
     came_part ins t h none all reads e = came (ltb→lt 0 (takes least p) t.some) (counted_part src toks w ins t h none all reads e)
 
     -- any, where no rule was opened on the token at hand; and one that takes a token
-    pub passed_part : (ins : List Value) → Modest p → s.at.0 ≤ eof_at toks → owed (ins ++ []) ≡ 0 → Held s.nodes (ins ++ []) → Parts src toks room p ins out s tr a tr' → a ≡ Node n s' → Passed src toks out s n s'
+    pub passed_part : (ins : List Value) → Modest p → s.at.0 ≤ eof_at toks → owed (ins ++ []) ≡ 0 → Held s.nodes (ins ++ []) → Parts src toks room p ins out s tr a tr' → a ≡ read n s' → Passed src toks out s n s'
     passed_part ins t h none all reads e = passed (counted_fresh src toks w ins t h none all reads e)
 
-    pub came_some : (ins : List Value) → Modest p → T (ltb 0 (takes least p)) → s.at.0 ≤ eof_at toks → owed (ins ++ []) ≡ 0 → Held s.nodes (ins ++ []) → Parts src toks room p ins out s tr a tr' → a ≡ Node n s' → Came src toks 10 out s n s'
+    pub came_some : (ins : List Value) → Modest p → T (ltb 0 (takes least p)) → s.at.0 ≤ eof_at toks → owed (ins ++ []) ≡ 0 → Held s.nodes (ins ++ []) → Parts src toks room p ins out s tr a tr' → a ≡ read n s' → Came src toks 10 out s n s'
     came_some ins t some h none all reads e = came (ltb→lt 0 (takes least p) some) (counted_fresh src toks w ins t h none all reads e)
 
     -- the same with nothing at hand
-    pub came_start : {high : ℕ} → Taking high p → s.at.0 < eof_at toks → Parts src toks room p [] out s tr a tr' → a ≡ Node n s' → Came src toks high out s n s'
+    pub came_start : {high : ℕ} → Taking high p → s.at.0 < eof_at toks → Parts src toks room p [] out s tr a tr' → a ≡ read n s' → Came src toks high out s n s'
     unfolding owed Held
     came_start t h reads e = came_part [] t h refl tt reads e
 
-    pub passed_start : Modest p → s.at.0 ≤ eof_at toks → Parts src toks room p [] out s tr a tr' → a ≡ Node n s' → Passed src toks out s n s'
+    pub passed_start : Modest p → s.at.0 ≤ eof_at toks → Parts src toks room p [] out s tr a tr' → a ≡ read n s' → Passed src toks out s n s'
     unfolding owed Held
     passed_start t h reads e = passed_part [] t h refl tt reads e
 
-    pub came_fresh : Modest p → T (ltb 0 (takes least p)) → s.at.0 ≤ eof_at toks → Parts src toks room p [] out s tr a tr' → a ≡ Node n s' → Came src toks 10 out s n s'
+    pub came_fresh : Modest p → T (ltb 0 (takes least p)) → s.at.0 ≤ eof_at toks → Parts src toks room p [] out s tr a tr' → a ≡ read n s' → Came src toks 10 out s n s'
     unfolding owed Held
     came_fresh t some h reads e = came_some [] t some h refl tt reads e

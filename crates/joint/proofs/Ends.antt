@@ -21,10 +21,8 @@ use Rattle.pyhyeon.specs.Action.{Action, mark, literal, signs_none, unary, binar
 use Rattle.pyhyeon.specs.Rules.{Rule}
 use Rattle.leaves.specs.declared.State.{State}
 use Rattle.leaves.specs.declared.Added.{Added}
-use Rattle.leaves.specs.declared.Parsed.{Parsed}
-use Rattle.leaves.specs.declared.Parsed.TheVariants.{Node}
 use Rattle.lookahead.specs.Tokens.{eof_at, text_before, tokens_of, symbol_at}
-use Rattle.leaves.specs.Contract.{past, added, kept, Shape, a_node, a_list, Comes, Writes, Literals, Changes, Wraps, Joins}
+use Rattle.leaves.specs.Contract.{Parsed, read, past, added, kept, Shape, a_node, a_list, Comes, Writes, Literals, Changes, Wraps, Joins}
 use Rattle.leaves.proofs.Frames.{frame_none}
 use Rattle.joint.proofs.Chain.{tok_then, act_then, act_last}
 
@@ -34,31 +32,31 @@ number_of e = ap (λ (k : ℕ). record { 0 = k }) e
 
 -- an action that ends a part
 module _ {src toks : List ℕ} {room : ℕ} {vs : List Value} {s : State} {tr tr' : List ℕ} {r : Added} where
-  pub act_wrote : {x : Action} {ins : List Value} → s.used ≡ text_before src toks s.at.0 → Writes src toks x ins s tr r tr' → Comes src toks room (act x) a_node vs (ins ++ vs) s tr (Node r.0 r.1) tr'
+  pub act_wrote : {x : Action} {ins : List Value} → s.used ≡ text_before src toks s.at.0 → Writes src toks x ins s tr r tr' → Comes src toks room (act x) a_node vs (ins ++ vs) s tr (read r.0 r.1) tr'
   act_wrote u w = rw (w.after, number_of w.node) (act_last {out = a_node} (w.same vs) refl refl w.frame u)
 
-  pub act_literal : Literals src toks s tr r tr' → Comes src toks room (act literal) a_node vs vs s tr (Node r.0 r.1) tr'
+  pub act_literal : Literals src toks s tr r tr' → Comes src toks room (act literal) a_node vs vs s tr (read r.0 r.1) tr'
   act_literal w = rw (w.after, number_of w.node) (act_last {out = a_node} (w.same vs) refl refl w.frame refl)
 
   pub act_wrapped : {first end child : ℕ} → s.used ≡ text_before src toks s.at.0 → Wraps src toks first end child s tr r tr' →
-      Comes src toks room (act unary) a_node vs (node child ∷ signs first (end - first) ∷ vs) s tr (Node r.0 r.1) tr'
+      Comes src toks room (act unary) a_node vs (node child ∷ signs first (end - first) ∷ vs) s tr (read r.0 r.1) tr'
   unfolding perform number count
   act_wrapped u w = act_last {out = a_node} (w.same vs) w.at w.opened w.frame (sym w.used ∙ u ∙ ap (λ (t : ℕ). text_before src toks t) (ap (λ t. t.0) w.at))
 
 module _ {src toks : List ℕ} {room : ℕ} {vs : List Value} {s : State} {tr : List ℕ} {n : NodeNumber} where
-  pub act_changed : {x : Action} {ins : List Value} {tr' : List ℕ} → s.used ≡ text_before src toks s.at.0 → Changes src toks x ins (node n.0 ∷ []) s tr tr' → Comes src toks room (act x) a_node vs (ins ++ vs) s tr (Node n s) tr'
+  pub act_changed : {x : Action} {ins : List Value} {tr' : List ℕ} → s.used ≡ text_before src toks s.at.0 → Changes src toks x ins (node n.0 ∷ []) s tr tr' → Comes src toks room (act x) a_node vs (ins ++ vs) s tr (read n s) tr'
   act_changed u w = act_last {out = a_node} (w.same vs) refl refl w.frame u
 
-  pub compared_last : {l : ℕ} → s.used ≡ text_before src toks s.at.0 → Comes src toks room (act compared) a_node vs (chain n.0 l ∷ vs) s tr (Node n s) tr
+  pub compared_last : {l : ℕ} → s.used ≡ text_before src toks s.at.0 → Comes src toks room (act compared) a_node vs (chain n.0 l ∷ vs) s tr (read n s) tr
   unfolding perform whole
   compared_last u = act_last {out = a_node} refl refl refl frame_none u
 
-  pub list_last : {l : ℕ} → s.used ≡ text_before src toks s.at.0 → Comes src toks room (act list_done) a_list vs (growing n.0 l ∷ vs) s tr (Node n s) tr
+  pub list_last : {l : ℕ} → s.used ≡ text_before src toks s.at.0 → Comes src toks room (act list_done) a_list vs (growing n.0 l ∷ vs) s tr (read n s) tr
   unfolding perform number
   list_last u = act_last {out = a_list} refl refl refl frame_none u
 
 module _ {src toks : List ℕ} {room : ℕ} {vs : List Value} {s : State} {tr : List ℕ} where
-  pub none_last : s.used ≡ text_before src toks s.at.0 → Comes src toks room (act list_none) a_list vs vs s tr (Node (record { 0 = none }) s) tr
+  pub none_last : s.used ≡ text_before src toks s.at.0 → Comes src toks room (act list_none) a_list vs vs s tr (read (record { 0 = none }) s) tr
   unfolding perform
   none_last u = act_last {out = a_list} refl refl refl frame_none u
 

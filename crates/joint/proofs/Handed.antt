@@ -12,7 +12,9 @@ use Rattle.tokens.specs.Token.{Token}
 use Rattle.lexer.specs.Scan.{Scan, scanned, refused, mark, token_list}
 use Rattle.lexer.specs.Words.{words, answer_of, words_of, Scans}
 use Rattle.lexer.specs.declared.Scanned.{Scanned}
-use Rattle.lexer.specs.declared.Scanned.TheVariants as S
+use Rattle.std.specs.Prelude.{Result, Ok, Err}
+use Rattle.source.specs.Reasons.{refusal_at}
+use Rattle.source.specs.declared.refusal.Refusal.{Refusal}
 use Rattle.lexer.proofs.Writing.{length_words}
 use Rattle.lexer.proofs.Laws.{tokens_few, text_few, tokens_end}
 use Rattle.lookahead.specs.Tokens.{eof_at, Tokens}
@@ -32,19 +34,20 @@ pub record Handed (s : List ℕ) (count used : ℕ) (tokens : List ℕ) : Type 0
 
 module _ {s : List ℕ} {count used : ℕ} where
   -- words of the token list that stand in front of others
-  pub handed_front : (tokens rest : List ℕ) → length s ≤ 65536 → S.Tokens count used ≡ answer_of (token_list s) → tokens ≡ words_of (token_list s) ++ rest → Handed s count used tokens
+  pub handed_front : (tokens rest : List ℕ) → length s ≤ 65536 → Ok (record { count = count; text = used }) ≡ answer_of (token_list s) → tokens ≡ words_of (token_list s) ++ rest → Handed s count used tokens
   unfolding eof_at
   handed_front tokens rest small answer are = go (token_list s) refl
     where
       go : (x : Scan) → token_list s ≡ x → Handed s count used tokens
       go (refused number place) q =
-          let a : S.Tokens count used ≡ S.No number place = answer ∙ ap answer_of q in
+          let a : ◌≡◌ {A = Result Scanned Refusal} (Ok (record { count = count; text = used })) (Err (refusal_at number place)) = answer ∙ ap answer_of q in
           let z : ◌≡◌ {A = ℕ} 0 1 = cc in
           absurd (omega arith)
       go (scanned ts bs) q =
-          let a : S.Tokens count used ≡ S.Tokens (length ts - 1) (length bs) = answer ∙ ap answer_of q in
-          let c : count ≡ length ts - 1 = cc in
-          let u : used ≡ length bs = cc in
+          let a : ◌≡◌ {A = Result Scanned Refusal} (Ok (record { count = count; text = used })) (Ok (record { count = length ts - 1; text = length bs })) = answer ∙ ap answer_of q in
+          let m : ◌≡◌ {A = Scanned} (record { count = count; text = used }) (record { count = length ts - 1; text = length bs }) = cc in
+          let c = ap (λ (x : Scanned). x.count) m in
+          let u = ap (λ (x : Scanned). x.text) m in
           let l = tokens_end s ts bs q in
           let n : length ts ≡ length l.front + 1 = ap length l.last ∙ length-append l.front (mark Eof (length s) (length s) ∷ []) in
           let w : tokens ≡ words ts ++ rest = are ∙ ap (λ (x : Scan). words_of x ++ rest) q in
@@ -62,7 +65,7 @@ module _ {s : List ℕ} {count used : ℕ} where
           }
 
   -- so the slice that the scanner leaves
-  pub handed : {r : Scanned} {tokens₀ text₀ tokens text : List ℕ} → Scans s r tokens₀ text₀ tokens text → length s ≤ 65536 → r ≡ S.Tokens count used → Handed s count used tokens
+  pub handed : {r : Result Scanned Refusal} {tokens₀ text₀ tokens text : List ℕ} → Scans s r tokens₀ text₀ tokens text → length s ≤ 65536 → r ≡ Ok (record { count = count; text = used }) → Handed s count used tokens
   unfolding area
   handed {tokens₀ = tokens₀} {tokens = tokens} h small e =
       let zeros : List ℕ = replicate (token_area (length s) - length (words_of (token_list s))) 0 in

@@ -1,5 +1,6 @@
 -- The invariants of the reader's loops: whatever the part comes to from here on, it comes to from the start.
 -- Assumes nothing.
+use Rattle.std.specs.Prelude.{Ok, Err}
 use mathlib.Core.Path.{◌≡◌, refl}
 use mathlib.Core.List.{List, ◌∷◌, ◌++◌}
 use Prim.Native.Nat.{ℕ, ◌+◌, ◌*◌, ◌≤◌, ◌<◌}
@@ -11,10 +12,10 @@ use Rattle.pyhyeon.specs.Machine.{Value, growing}
 use Rattle.pyhyeon.specs.Action.{Action, list_done}
 use Rattle.pyhyeon.specs.Rules.{Rule}
 use Rattle.leaves.specs.declared.State.{State}
-use Rattle.leaves.specs.declared.Parsed.{Parsed}
-use Rattle.leaves.specs.declared.Parsed.TheVariants.{Node, Refused}
 use Rattle.lookahead.specs.Tokens.{eof_at, text_before, Tokens}
-use Rattle.leaves.specs.Contract.{Shape, a_node, a_list, Comes, Ready, Led, Lists}
+use Rattle.source.specs.declared.refusal.Reason.{Reason}
+use Rattle.joint.proofs.Chain.{read_same, refused_same}
+use Rattle.leaves.specs.Contract.{Parsed, read, refused, Shape, a_node, a_list, Comes, Ready, Led, Lists}
 use Rattle.joint.proofs.Ends.{list_last}
 
 -- what code needs at a state, of the numbers that are left to show
@@ -49,19 +50,19 @@ begin_list r l = record { ready = r; on = omega arith; kept = omega arith; spare
 
 -- the two answers of code that reads the rest of a list
 module _ {src toks : List ℕ} {room : ℕ} {p : Part Action Rule} {ins : List Value} {s : State} {tr : List ℕ} {s' : State} {tr' : List ℕ} where
-  pub lists_node : {n : NodeNumber} → Led src toks room p ins s tr n s' tr' → Lists src toks room p ins s tr (Node n s') tr'
+  pub lists_node : {n : NodeNumber} → Led src toks room p ins s tr n s' tr' → Lists src toks room p ins s tr (read n s') tr'
   lists_node {n} d = record {
-    leads = λ n₁ s₁ e. let a : n ≡ n₁ = cc in let b : s' ≡ s₁ = cc in rw (a, b) at d;
+    leads = λ n₁ s₁ e. let h = read_same e in rw (h.0, h.1) at d;
     stops = λ out k s₁ e q vs ws. let z : ◌≡◌ {A = ℕ} 0 1 = cc in absurd (omega arith);
   }
 
-  pub lists_stop : {k : ℕ} → ((out : Shape) (q : Part Action Rule) (vs ws : List Value) → Comes src toks room (p ⨾ q) out vs (ins ++ ws) s tr (Refused k s') tr') → Lists src toks room p ins s tr (Refused k s') tr'
+  pub lists_stop : {k : Reason} → ((out : Shape) (q : Part Action Rule) (vs ws : List Value) → Comes src toks room (p ⨾ q) out vs (ins ++ ws) s tr (refused k s') tr') → Lists src toks room p ins s tr (refused k s') tr'
   lists_stop {k} f = record {
     leads = λ n₁ s₁ e. let z : ◌≡◌ {A = ℕ} 0 1 = cc in absurd (omega arith);
-    stops = λ out k₁ s₁ e q vs ws. let a : k ≡ k₁ = cc in let b : s' ≡ s₁ = cc in rw (a, b) at (f out q vs ws);
+    stops = λ out k₁ s₁ e q vs ws. let h = refused_same e in rw (h.0, h.1) at (f out q vs ws);
   }
 
 -- where the list ends behind it
 pub lists_done : {src toks : List ℕ} {room : ℕ} {p : Part Action Rule} {ins : List Value} {s : State} {tr : List ℕ} (r : Parsed) {tr' : List ℕ} → Lists src toks room p ins s tr r tr' → (vs : List Value) → Comes src toks room (p ⨾ act list_done) a_list vs (ins ++ vs) s tr r tr'
-lists_done (Node n s') l vs = let d = l.leads n s' refl in d.same a_list (act list_done) vs vs (list_last d.ready.used)
-lists_done (Refused k s') l vs = l.stops a_list k s' refl (act list_done) vs vs
+lists_done (Ok r) l vs = let d = l.leads r.0 r.1 refl in d.same a_list (act list_done) vs vs (list_last d.ready.used)
+lists_done (Err r) l vs = l.stops a_list r.0 r.1 refl (act list_done) vs vs

@@ -16,9 +16,8 @@ use Rattle.pyhyeon.specs.Action.{Action, signs_more, perform}
 use Rattle.pyhyeon.specs.Rules.{Rule, newlines, sign_set}
 use Rattle.pyhyeon.specs.Tables.{pyhyeon}
 use Rattle.leaves.specs.declared.State.{State}
-use Rattle.leaves.specs.declared.Parsed.{Parsed}
 use Rattle.lookahead.specs.Tokens.{eof_at, text_before, Tokens}
-use Rattle.leaves.specs.Contract.{Shape, Comes}
+use Rattle.leaves.specs.Contract.{Parsed, Shape, Comes}
 use Rattle.lookahead.specs.Run.{Run}
 use Rattle.leaves.proofs.Frames.{frame_none}
 use Rattle.lookahead.proofs.Tokens.{took}

@@ -10,9 +10,9 @@ use lib.Dec.{eqb}
 use lib.ListN.{length, get_or, drop, length-append}
 use lib.Seq.{get_or-drop, drop-drop}
 use borrow.Author.Tests.{ne_eqb}
+use Rattle.std.specs.Prelude.{Some}
 use Rattle.token.specs.Code.{Eof}
 use Rattle.tokens.specs.Token.{Token, token}
-use Rattle.literal.specs.declared.Lexed.TheVariants.{Value}
 use Rattle.lexer.specs.Value.{value_of, text_of, literal_in}
 use Rattle.lexer.specs.Scan.{scanned, mark, token_list}
 use Rattle.lexer.specs.Words.{words}
@@ -57,7 +57,7 @@ module _ {toks : List ℕ} {i : ℕ} {t : Token} {ts : List Token} (f : From tok
 
 module _ (src : List ℕ) {toks : List ℕ} {i : ℕ} {t : Token} {used : ℕ} (r : Reads toks i t) (e : text_before src toks i ≡ used) where
   -- token i is t, where its literal is the one of its code, its bytes and the text before it
-  reads_token : value_of t.code (bytes_of src t) used ≡ Value t.literal → token_of src toks i ≡ t
+  reads_token : value_of t.code (bytes_of src t) used ≡ Some t.literal → token_of src toks i ≡ t
   reads_token v = rw (r.code_is, r.start_is, r.end_is, e) (ap (λ x. token t.code t.start t.end (literal_in x)) v)
 
   reads_text : text_before src toks (i + 1) ≡ used + length (text_of t.code (bytes_of src t))

@@ -11,9 +11,8 @@ use Rattle.pyhyeon.specs.Machine.{Value}
 use Rattle.pyhyeon.specs.Action.{Action}
 use Rattle.leaves.specs.declared.State.{State}
 use Rattle.leaves.specs.declared.Added.{Added}
-use Rattle.leaves.specs.declared.Parsed.TheVariants.{Node}
 use Rattle.lookahead.specs.Tokens.{eof_at, text_before, symbol_at, Tokens}
-use Rattle.leaves.specs.Contract.{past, a_node, Comes, Ready, Writes}
+use Rattle.leaves.specs.Contract.{read, past, a_node, Comes, Ready, Writes}
 use Rattle.lookahead.proofs.Tokens.{took}
 use Rattle.lookahead.proofs.Tests.{learnt}
 use Rattle.joint.proofs.Chain.{tok_then}
@@ -48,5 +47,5 @@ module _ {src toks : List ℕ} (set : List ℕ) (f : mem Eof set ≡ false) (g :
 
 -- the token, and the node that a leaf writes behind it
 pub taken_wrote : {src toks set : List ℕ} {room : ℕ} {vs : List Value} {s : State} {tr tr' : List ℕ} {r : Added} {x : Action} {ins : List Value} → Taken src toks set s → Writes src toks x ins (past s) tr r tr' →
-    Comes src toks room (tok set ⨾ act x) a_node vs (ins ++ vs) s tr (Node r.0 r.1) tr'
+    Comes src toks room (tok set ⨾ act x) a_node vs (ins ++ vs) s tr (read r.0 r.1) tr'
 taken_wrote d w = tok_then d.here d.seen (act_wrote d.used w)

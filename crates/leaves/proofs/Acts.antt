@@ -7,7 +7,7 @@ use native.Mathlib.Omega.{arith}
 use lib.ListN.{length, get_or, drop}
 use Rattle.tokens.specs.Token.{Token}
 use Rattle.ast.specs.Node.{Node, made, spanned, blank}
-use Rattle.ast.specs.Words.{node_at, nodes_of, put_node_lem, set_span_lem, set_next_lem}
+use Rattle.ast.specs.Words.{node_at, nodes_of, set_span_lem, set_next_lem}
 use Rattle.ast.proofs.Nodes.{length_nodes, node_there, nodes_put, nodes_span, nodes_next}
 use Rattle.pyhyeon.specs.Machine.{Value, token, node, growing, number, last, both, write, change}
 use Rattle.pyhyeon.specs.Action.{Action, group, list_join, token_at_lem, perform}
@@ -53,19 +53,6 @@ module _ {toks tr : List ℕ} {s : State} (here : Spot toks tr s) where
     pub writes : (src : List ℕ) {x : Action} {ins : List Value} {n : Node} → Put s tr n a tr'
         → ((vs : List Value) → perform src (tokens_of src toks) x (kept s tr (ins ++ vs)) ≡ kept (added s) tr' (node s.nodes ∷ vs)) → Writes src toks x ins s tr a tr'
     writes src w e = record { node = w.node; after = w.after; same = e; frame = frame_put w }
-
--- a node that was put, by what was read for it
-pub putting : {s : State} {tr tr' : List ℕ} {a : Added} {n m : Node} → a.0.0 ≡ s.nodes → a.1 ≡ added s → tr' ≡ put_node_lem tr s.nodes m → m ≡ n → Put s tr n a tr'
-putting {s} {tr} g h e d = record { node = g; after = h; words = e ∙ ap (λ (x : Node). put_node_lem tr s.nodes x) d }
-
-pub made_at : {kind x y x' y' p q r f : ℕ} → x ≡ x' → y ≡ y' → made kind x y p q r f ≡ made kind x' y' p q r f
-made_at g h = cc
-
-pub put_with : {s : State} {tr tr' : List ℕ} {a : Added} {kind x y p q r f p' q' r' : ℕ} → p ≡ p' → q ≡ q' → r ≡ r' → Put s tr (made kind x y p q r f) a tr' → Put s tr (made kind x y p' q' r' f) a tr'
-put_with {s} {tr} {kind = kind} {x} {y} {f = f} g h k w = putting w.node w.after w.words (fields g h k)
-  where
-    fields : {p q r p' q' r' : ℕ} → p ≡ p' → q ≡ q' → r ≡ r' → made kind x y p q r f ≡ made kind x y p' q' r' f
-    fields g h k = cc
 
 -- the span of a node in parentheses
 pub group_changed : {toks tr tr' : List ℕ} {s : State} {o n x y : ℕ} → Spot toks tr s → tr' ≡ set_span_lem tr n x y → x ≡ start_at toks o → y ≡ end_at toks (s.at.0 - 1) → o < s.at.0 → n < s.nodes → (src : List ℕ)

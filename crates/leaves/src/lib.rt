@@ -9,6 +9,7 @@ mod list;
 mod write;
 
 pub use list::{link, widen};
+use source::Reason;
 use token::{NodeNumber, TokenNumber};
 pub use write::{add, put_begun, put_opened};
 
@@ -26,23 +27,20 @@ pub fn past(s: State) -> State
     requires { s.at.0 + 1 < 2 ^ 32 }
     ensures { result ≡ past s }
 {
-    let t = s.at.0 + 1;
     State {
-        at: TokenNumber(t),
-        nodes: s.nodes,
-        opened: s.opened,
-        used: s.used,
+        at: TokenNumber(s.at.0 + 1),
+        ..s
     }
 }
 
-// The answer of a rule or a part: the node that it read, or the first of a list, which may be none; or a refusal, which stands at the state's token, by 13 or by
-// what was asked for there: 16 for an expression or operand, which is its number at a Newline or Dedent, and 14 for all else. The state is handed on in both.
-#[derive(Clone, Copy)]
-pub enum Parsed {
-    Node(NodeNumber, State),
-    Refused(u32, State),
-}
-
-// A node that was written, and the state after it.
+// A node that was read or written, or the first of a list, which may be none; and the state after it.
 #[derive(Clone, Copy)]
 pub struct Added(pub NodeNumber, pub State);
+
+// A refusal at the state's token: too deep, or by what was asked for there, an expression or operand (`Missing`, which is its number at a Newline or Dedent) or
+// anything else (`Misfit`).
+#[derive(Clone, Copy)]
+pub struct Refused(pub Reason, pub State);
+
+// The answer of a rule or a part. The state is handed on in both.
+pub type Parsed = Result<Added, Refused>;

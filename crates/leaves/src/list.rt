@@ -22,8 +22,7 @@ pub fn widen(toks: &[u32], tree: &mut [u32], opener: TokenNumber, n: NodeNumber,
     requires opener_lt_at { (opener.0 < s.at.0) × (n.0 < s.nodes) }
     ensures { (src : List ℕ) → Changes src toks.now group (node n.0 ∷ token opener.0 ∷ []) (node n.0 ∷ []) s tree.old tree.new }
 {
-    let t = s.at.0 - 1;
     let from = start_at(toks, opener);
-    let to = end_at(toks, TokenNumber(t));
+    let to = end_at(toks, TokenNumber(s.at.0 - 1));
     ast::set_span(tree, n, from, to);
 }

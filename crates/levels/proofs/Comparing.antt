@@ -18,10 +18,8 @@ use Rattle.pyhyeon.specs.Rules.{Rule, S, comparisons}
 use Rattle.pyhyeon.specs.Tables.{first, least, rank, pyhyeon}
 use Rattle.leaves.specs.declared.State.{State}
 use Rattle.leaves.specs.declared.Added.{Added}
-use Rattle.leaves.specs.declared.Parsed.{Parsed}
-use Rattle.leaves.specs.declared.Parsed.TheVariants.{Node}
 use Rattle.lookahead.specs.Tokens.{eof_at, text_before, symbol_at}
-use Rattle.leaves.specs.Contract.{past, added, a_node, Comes}
+use Rattle.leaves.specs.Contract.{Parsed, read, past, added, a_node, Comes}
 use Rattle.joint.proofs.Chain.{act_then, skip_end, many_on, many_end}
 use Rattle.joint.proofs.Choices.{absent, or_first, or_next}
 use Rattle.joint.proofs.Ends.{tok_mark, compared_last}
@@ -94,7 +92,7 @@ value (links.First op l) m n = chain m n
 value (links.Further op l x) m n = chain m n
 
 module _ {src toks : List ℕ} {room : ℕ} {s : State} {tr : List ℕ} {vs : List Value} where
-  pub compares_end : (b : Chain) (m n : NodeNumber) → s.at.0 ≤ eof_at toks → mem (symbol_at src toks s.at.0) comparisons ≡ false → s.used ≡ text_before src toks s.at.0 → Comes src toks room (behind b) a_node vs (value b m.0 n.0 ∷ vs) s tr (Node m s) tr
+  pub compares_end : (b : Chain) (m n : NodeNumber) → s.at.0 ≤ eof_at toks → mem (symbol_at src toks s.at.0) comparisons ≡ false → s.used ≡ text_before src toks s.at.0 → Comes src toks room (behind b) a_node vs (value b m.0 n.0 ∷ vs) s tr (read m s) tr
   unfolding first begins null
   compares_end links.Nothing m n h f u = or_next h f (absent refl) (skip_end u)
   compares_end (links.First o l) m n h f u = many_end low_further h f (compared_last u)

@@ -8,12 +8,13 @@ use Rattle.token.specs.declared.TokenNumber.{TokenNumber}
 use Rattle.token.specs.declared.NodeNumber.{NodeNumber}
 use Rattle.pyhyeon.specs.Machine.{token, node, chain}
 use Rattle.pyhyeon.specs.Action.{binary, compare, compare_more}
+use Rattle.std.specs.Prelude.{Some, None}
 use Rattle.leaves.specs.declared.State.{State}
 use Rattle.leaves.specs.declared.Added.{Added}
 use Rattle.leaves.specs.Contract.{added, Spot, Writes, Joins}
 use Rattle.leaves.proofs.Frames.{frame_then}
 use Rattle.joint.proofs.Ends.{compare_is, compare_more_is}
-use Rattle.levels.specs.declared.Before.TheVariants as before
+use Rattle.levels.specs.declared.Left.{Left}
 use Rattle.levels.specs.declared.Chain.TheVariants as links
 use Rattle.levels.specs.Levels.{Joined, Chains, Compared}
 
@@ -22,13 +23,13 @@ pub spot_less : {toks tr : List ℕ} {s : State} → Spot toks tr (added s) → 
 spot_less p = record { some = p.some; token = p.token; last = p.last; word = omega (arith, p.word); count = omega (arith, p.count) }
 
 -- joined to nothing, and by an operator
-pub joined_none : {src toks : List ℕ} {n : NodeNumber} {s : State} {tr : List ℕ} → Joined src toks before.Nothing n s tr (record { 0 = n; 1 = s }) tr
-joined_none = record { alone = λ e. (refl, refl); both = λ o l e. let z : ◌≡◌ {A = ℕ} 0 1 = cc in absurd (omega arith) }
+pub joined_none : {src toks : List ℕ} {n : NodeNumber} {s : State} {tr : List ℕ} → Joined src toks None n s tr (record { 0 = n; 1 = s }) tr
+joined_none = record { alone = λ e. (refl, refl); both = λ x e. let z : ◌≡◌ {A = ℕ} 0 1 = cc in absurd (omega arith) }
 
-pub joined_one : {src toks : List ℕ} {op : TokenNumber} {l n : NodeNumber} {s : State} {tr : List ℕ} {r : Added} {tr' : List ℕ} → Writes src toks binary (node n.0 ∷ token op.0 ∷ node l.0 ∷ []) s tr r tr' → Joined src toks (before.Operator op l) n s tr r tr'
-joined_one {op = op} {l} w = record {
+pub joined_one : {src toks : List ℕ} {x : Left} {n : NodeNumber} {s : State} {tr : List ℕ} {r : Added} {tr' : List ℕ} → Writes src toks binary (node n.0 ∷ token x.0.0 ∷ node x.1.0 ∷ []) s tr r tr' → Joined src toks (Some x) n s tr r tr'
+joined_one {x = x} w = record {
   alone = λ e. let z : ◌≡◌ {A = ℕ} 0 1 = cc in absurd (omega arith);
-  both = λ o₁ l₁ e. let a : op ≡ o₁ = cc in let b : l ≡ l₁ = cc in rw (← a, ← b) w;
+  both = λ x₁ e. let a : x ≡ x₁ = cc in rw (← a) w;
 }
 
 -- Compared with nothing, with an operand, and with a chain.

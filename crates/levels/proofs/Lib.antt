@@ -1,4 +1,3 @@
-pub mod Standing
 pub mod Operators
 pub mod Operands
 pub mod Grouping

@@ -17,10 +17,10 @@ use Rattle.pyhyeon.specs.Rules.{Rule}
 use Rattle.pyhyeon.specs.Tables.{first_u, rank}
 use Rattle.leaves.specs.declared.State.{State}
 use Rattle.leaves.specs.declared.Added.{Added}
-use Rattle.leaves.specs.declared.Parsed.{Parsed}
-use Rattle.leaves.specs.declared.Parsed.TheVariants.{Node, Refused}
 use Rattle.lookahead.specs.Tokens.{eof_at, text_before, symbol_at}
-use Rattle.leaves.specs.Contract.{asked_number, past, added, a_node, Rules, Comes, Parts, Ready, Spot}
+use Rattle.source.specs.declared.refusal.Reason.{Reason}
+use Rattle.source.specs.declared.refusal.Reason.TheVariants as reason
+use Rattle.leaves.specs.Contract.{Parsed, read, refused, asked_reason, past, added, a_node, Rules, Comes, Parts, Ready, Spot}
 use Rattle.lookahead.proofs.Tokens.{before_eof, Took, took}
 use Rattle.joint.proofs.Bounds.{Grown, after_rule}
 use Rattle.joint.proofs.Chain.{called, not_called, part_then, part_stop}
@@ -49,7 +49,7 @@ pub record Joint (B : Type 0) : Type 1 where
   pub starts : {src toks : List ℕ} {room : ℕ} (vs : List Value) {s : State} {tr : List ℕ} {a : Parsed} {t : List ℕ} → Comes src toks room (call (operand level) ⨾ rest nothing) a_node vs (hand nothing ++ vs) s tr a t → Comes src toks room body a_node vs vs s tr a t
   pub alone : {src toks : List ℕ} {room : ℕ} {n : NodeNumber} {s : State} {tr : List ℕ} {vs : List Value} {a : Parsed} {t : List ℕ} → Comes src toks room (behind nothing) a_node vs (value nothing n.0 n.0 ∷ vs) s tr a t → Comes src toks room (rest nothing) a_node vs (node n.0 ∷ hand nothing ++ vs) s tr a t
   pub ends : (b : B) (m n : NodeNumber) {src toks : List ℕ} {room : ℕ} {s : State} {tr : List ℕ} {vs : List Value} → s.at.0 ≤ eof_at toks → mem (symbol_at src toks s.at.0) (operators level) ≡ false → s.used ≡ text_before src toks s.at.0 →
-      Comes src toks room (behind b) a_node vs (value b m.0 n.0 ∷ vs) s tr (Node m s) tr
+      Comes src toks room (behind b) a_node vs (value b m.0 n.0 ∷ vs) s tr (read m s) tr
   pub turns : (b : B) (m n : NodeNumber) {src toks : List ℕ} {room : ℕ} {s : State} {tr : List ℕ} {vs : List Value} {a : Parsed} {t : List ℕ} → s.at.0 ≤ eof_at toks → mem (symbol_at src toks s.at.0) (operators level) ≡ true →
       Comes src toks room (call (operand level) ⨾ rest (next b s.at m n)) a_node vs (hand (next b s.at m n) ++ vs) (past s) tr a t → Comes src toks room (behind b) a_node vs (value b m.0 n.0 ∷ vs) s tr a t
 
@@ -80,12 +80,12 @@ pub reading_starts : {B : Type 0} (g : Joint B) {src toks : List ℕ} {room more
 reading_starts g r f few = record { ready = r; seen = f; few = few; on = omega arith; long = refl; held = g.begun _; same = λ vs c. g.starts vs c }
 
 module _ {B : Type 0} {g : Joint B} {src toks : List ℕ} {room more : ℕ} {u : State} {tr₀ : List ℕ} {b : B} {st : State} {tr : List ℕ} (i : Reading g src toks room more u tr₀ b st tr) {inner : Parsed} {tr₁ : List ℕ} (c : Rules src toks room (operand g.level) a_node st tr inner tr₁) where
-  read : Parts src toks room (call (operand g.level)) [] a_node st tr inner tr₁
-  read = called i.ready.here (rw (first_same g.level) i.seen) c
+  read_as : Parts src toks room (call (operand g.level)) [] a_node st tr inner tr₁
+  read_as = called i.ready.here (rw (first_same g.level) i.seen) c
 
   -- the operand was refused
-  pub reading_stops : {k : ℕ} {t : State} → inner ≡ Refused k t → (vs : List Value) → Comes src toks room g.body a_node vs vs u tr₀ (Refused k t) tr₁
-  reading_stops e vs = i.same vs (part_stop _ read e)
+  pub reading_stops : {k : Reason} {t : State} → inner ≡ refused k t → (vs : List Value) → Comes src toks room g.body a_node vs vs u tr₀ (refused k t) tr₁
+  reading_stops e vs = i.same vs (part_stop _ read_as e)
 
 -- the operand n was read
 pub record Operand {B : Type 0} (g : Joint B) : Type 0 where
@@ -104,10 +104,10 @@ pub record Operand {B : Type 0} (g : Joint B) : Type 0 where
   pub tr₁ : List ℕ
   pub reading : Reading g src toks room more u tr₀ b st tr
   pub rule : Rules src toks room (operand g.level) a_node st tr inner tr₁
-  pub node : inner ≡ Node n after
+  pub node : inner ≡ read n after
   pub length : ListN.length tr₁ ≡ ListN.length tr
 
-abbrev pub operand_read : {B : Type 0} {g : Joint B} {src toks : List ℕ} {room more : ℕ} {u : State} {tr₀ : List ℕ} {b : B} {st : State} {tr : List ℕ} {inner : Parsed} {n : NodeNumber} {after : State} {tr₁ : List ℕ} → Reading g src toks room more u tr₀ b st tr → Rules src toks room (operand g.level) a_node st tr inner tr₁ → inner ≡ Node n after → length tr₁ ≡ length tr → Operand g
+abbrev pub operand_read : {B : Type 0} {g : Joint B} {src toks : List ℕ} {room more : ℕ} {u : State} {tr₀ : List ℕ} {b : B} {st : State} {tr : List ℕ} {inner : Parsed} {n : NodeNumber} {after : State} {tr₁ : List ℕ} → Reading g src toks room more u tr₀ b st tr → Rules src toks room (operand g.level) a_node st tr inner tr₁ → inner ≡ read n after → length tr₁ ≡ length tr → Operand g
 operand_read i c e k = record { src = _; toks = _; room = _; more = _; u = _; tr₀ = _; b = _; st = _; tr = _; inner = _; n = _; after = _; tr₁ = _; reading = i; rule = c; node = e; length = k }
 
 module _ {B : Type 0} {g : Joint B} (w : Operand g) where
@@ -160,7 +160,7 @@ module _ {B : Type 0} {g : Joint B} (w : Turn g) where
 
   -- by what is read behind the operand
   behind_is : {vs : List Value} {a : Parsed} {t : List ℕ} → Comes o.src o.toks o.room (g.behind o.b) a_node vs (g.value o.b w.made.0.0 o.n.0 ∷ vs) w.made.1 w.tr₂ a t → Body vs a t
-  behind_is {vs} x = i.same vs (part_then (read i o.rule) o.node (w.goes.same x))
+  behind_is {vs} x = i.same vs (part_then (read_as i o.rule) o.node (w.goes.same x))
 
   pub turn_long : ListN.length w.tr₂ ≡ ListN.length o.tr₀
   turn_long = w.length ∙ o.length ∙ i.long
@@ -175,7 +175,7 @@ module _ {B : Type 0} {g : Joint B} (w : Turn g) where
   used = w.goes.used ∙ (grown o).used ∙ ap (text_before o.src o.toks) (sym at_same)
 
   -- no operator stands behind it
-  pub turn_ends : mem (symbol_at o.src o.toks w.made.1.at.0) (operators g.level) ≡ false → (vs : List Value) → Body vs (Node w.made.0 w.made.1) w.tr₂
+  pub turn_ends : mem (symbol_at o.src o.toks w.made.1.at.0) (operators g.level) ≡ false → (vs : List Value) → Body vs (read w.made.0 w.made.1) w.tr₂
   turn_ends f vs = behind_is (g.ends o.b w.made.0 o.n turn_here f used)
 
   -- an operator does, and behind that no operand, or one
@@ -183,8 +183,8 @@ module _ {B : Type 0} {g : Joint B} (w : Turn g) where
     taken : Took o.src o.toks w.made.1.at.0
     taken = took (operators g.level) (no_eof g.level) (no_string g.level) i.ready.tokens turn_here f
 
-    pub turn_misses : mem (symbol_at o.src o.toks (w.made.1.at.0 + 1)) first_u ≡ false → (vs : List Value) → Body vs (Refused 16 on) w.tr₂
-    turn_misses h vs = rw d (behind_is (g.turns o.b w.made.0 o.n turn_here f (part_stop _ (not_called taken.inside (used ∙ sym taken.text) (rw (first_same g.level) h) (ap asked_number (first_same g.level))) refl)))
+    pub turn_misses : mem (symbol_at o.src o.toks (w.made.1.at.0 + 1)) first_u ≡ false → (vs : List Value) → Body vs (refused reason.Missing on) w.tr₂
+    turn_misses h vs = rw d (behind_is (g.turns o.b w.made.0 o.n turn_here f (part_stop _ (not_called taken.inside (used ∙ sym taken.text) (rw (first_same g.level) h) (ap asked_reason (first_same g.level))) refl)))
 
     pub turn_less : o.st.at.0 < on.at.0
     turn_less = rw d (omega (arith, at_same, (grown o).on))

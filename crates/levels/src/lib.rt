@@ -8,7 +8,8 @@ ghost use Rattle.lookahead.specs.Tokens.{eof_at, Tokens};
 ghost use Rattle.leaves.specs.Contract.{added, Spot};
 ghost use Rattle.levels.specs.Levels.{operators, Held, Joined, lengthened, Hung, Compared, Stands};
 
-use leaves::{Added, State};
+use leaves::{Added, Refused, State};
+use source::Reason;
 use token::{NodeNumber, TokenNumber};
 
 // The levels of operators: O, A, C, S and P. The operand of each is the next of them, and that of P is U.
@@ -21,12 +22,9 @@ pub enum Level {
     Product,
 }
 
-// What stands before an operand: nothing of its level, or an operator and the node of all that stands before that.
+// What stands before an operand where that is not nothing of its level: an operator and the node of all before that.
 #[derive(Clone, Copy)]
-pub enum Before {
-    Nothing,
-    Operator(TokenNumber, NodeNumber),
-}
+pub struct Left(pub TokenNumber, pub NodeNumber);
 
 // What stands before an operand of comparisons: nothing; an operator and the operand before that; or an operator, the node of the comparisons so far and
 // the last operand of these.
@@ -35,15 +33,6 @@ pub enum Chain {
     Nothing,
     First(TokenNumber, NodeNumber),
     Further(TokenNumber, NodeNumber, NodeNumber),
-}
-
-// What stands behind an operand: nothing of its level; an operator and what can begin an operand, with the state there; or an operator and nothing that
-// can.
-#[derive(Clone, Copy)]
-pub enum Behind {
-    Nothing,
-    Operand(State),
-    Missing(State),
 }
 
 // Whether the symbol is an operator of the level.
@@ -60,14 +49,14 @@ fn is_operator(level: Level, symbol: u32) -> bool
 }
 
 // The operand n joined to what stands before it: a Binary where that is an operator, else the operand alone.
-pub fn join(toks: &[u32], tree: &mut [u32], before: Before, n: NodeNumber, s: State) -> Added
+pub fn join(toks: &[u32], tree: &mut [u32], before: Option<Left>, n: NodeNumber, s: State) -> Added
     requires spot { Spot toks.now tree.old s }
     requires held { Held before s }
     ensures { (src : List ℕ) → Joined src toks.now before n s tree.old result tree.new }
 {
     match before {
-        Before::Nothing => Added(n, s),
-        Before::Operator(op, l) => expr_leaves::put_binary(toks, tree, op, l, n, s),
+        None => Added(n, s),
+        Some(Left(op, l)) => expr_leaves::put_binary(toks, tree, op, l, n, s),
     }
 }
 
@@ -81,9 +70,7 @@ pub fn compare(toks: &[u32], tree: &mut [u32], before: Chain, n: NodeNumber, s: 
         Chain::Nothing => Added(n, s),
         Chain::First(op, l) => expr_leaves::put_binary(toks, tree, op, l, n, s),
         Chain::Further(op, l, x) => {
-            let made = expr_leaves::put_binary(toks, tree, op, x, n, s);
-            let m = made.0;
-            let up = made.1;
+            let Added(m, up) = expr_leaves::put_binary(toks, tree, op, x, n, s);
             expr_leaves::put_and(toks, tree, l, m, up)
         }
     }
@@ -100,22 +87,19 @@ pub fn lengthen(before: Chain, op: TokenNumber, l: NodeNumber, n: NodeNumber) ->
     }
 }
 
-// What stands behind the operand that ends at s.
-pub fn look(src: &[u8], toks: &[u32], level: Level, s: State) -> Behind
+// What stands behind the operand that ends at s: nothing of its level; or an operator and what can begin an operand, with the state there. Where nothing that
+// can stands behind an operator, that is refused.
+pub fn look(src: &[u8], toks: &[u32], level: Level, s: State) -> Result<Option<State>, Refused>
     requires tokens { Tokens src.now toks.now }
     requires at_bound { s.at.0 ≤ eof_at toks.now }
     ensures { Stands src.now toks.now level s result }
 {
-    let op = s.at;
-    if is_operator(level, lookahead::symbol_at(src, toks, op)) {
-        let on = leaves::past(s);
-        let next = on.at;
-        if lookahead::begins_u(lookahead::symbol_at(src, toks, next)) {
-            Behind::Operand(on)
-        } else {
-            Behind::Missing(on)
-        }
-    } else {
-        Behind::Nothing
+    if !is_operator(level, lookahead::symbol_at(src, toks, s.at)) {
+        return Ok(None);
     }
+    let on = leaves::past(s);
+    if !lookahead::begins_u(lookahead::symbol_at(src, toks, on.at)) {
+        return Err(Refused(Reason::Missing, on));
+    }
+    Ok(Some(on))
 }

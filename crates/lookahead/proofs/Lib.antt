@@ -1,4 +1,3 @@
 pub mod Tests
-pub mod Symbols
 pub mod Tokens
 pub mod Runs

@@ -2,13 +2,13 @@
 -- Assumes nothing.
 use mathlib.Core.Path.{◌≡◌, refl, ap, sym, ◌∙◌}
 use mathlib.Core.Bool.{true, false}
-use mathlib.Core.List.{List, ◌∷◌, map}
+use mathlib.Core.List.{List, [], ◌∷◌, map}
 use Prim.Native.Nat.{ℕ, zero, suc, ◌+◌, ◌≤◌, ◌<◌}
 use native.Mathlib.Omega.{arith}
 use native.Mathlib.Numerals.{add-one}
 use lib.ListN.{length, get_or, drop}
 use lib.Seq.{drop-cons}
-use borrow.Author.Tests.{ne_eqb}
+use borrow.Author.Tests.{eq-eqb, ne_eqb}
 use Rattle.grammar.specs.Sets.{mem, sees}
 use Rattle.grammar.specs.Limits.{before}
 use Rattle.grammar.proofs.Tokens.{seen_within}
@@ -62,9 +62,7 @@ not_string : (src toks : List ℕ) (t : ℕ) (set : List ℕ) → mem String set
 unfolding symbol_at
 not_string src toks t set f e c =
     let s : symbol_at src toks t ≡ String = rw c refl in
-    let y : true ≡ false = sym e ∙ ap (λ (x : ℕ). mem x set) s ∙ f in
-    let x : ◌≡◌ {A = ℕ} 0 1 = cc in
-    omega arith
+    cc
 
 module _ {src toks : List ℕ} {t : ℕ} (set : List ℕ) where
   pub before_eof : mem Eof set ≡ false → Tokens src toks → t ≤ eof_at toks → mem (symbol_at src toks t) set ≡ true → t < eof_at toks
@@ -75,3 +73,9 @@ module _ {src toks : List ℕ} {t : ℕ} (set : List ℕ) where
 
   pub took : mem Eof set ≡ false → mem String set ≡ false → Tokens src toks → t ≤ eof_at toks → mem (symbol_at src toks t) set ≡ true → Took src toks t
   took f g w h e = record { inside = omega (arith, before_eof f w h e); text = quiet src toks t (not_string src toks t set g e) }
+
+-- a token that is no Eof is not the last one
+pub not_last : {src toks : List ℕ} {t : ℕ} → Tokens src toks → t ≤ eof_at toks → (symbol_at src toks t ≡ Eof → ⊥) → t < eof_at toks
+not_last {src} {toks} {t} w h f =
+    let c = symbol_at src toks t in
+    before_eof (c ∷ []) (simp (ne_eqb Eof c (λ e. f (sym e)))) w h (simp (eq-eqb c c refl))

@@ -4,6 +4,12 @@ use Rattle.std.specs.Prelude.{ℕ, ◌≤◌, ◌<◌, ◌≡◌, true, false, L
 use Rattle.grammar.specs.Sets.{mem}
 use Rattle.lookahead.specs.Tokens.{eof_at, symbol_at}
 
+-- the symbols of the tokens from t on, up to `end`, are all such
+pub record Passed (Such : ℕ → Type 0) (src toks : List ℕ) (t end : ℕ) : Type 0 where
+  pub order : t ≤ end
+  pub inside : end ≤ eof_at toks
+  pub each : (k : ℕ) → t ≤ k → k < end → Such (symbol_at src toks k)
+
 -- the tokens from t on, up to `end`, are in the set, and that one is not
 pub record Run (src toks set : List ℕ) (t end : ℕ) : Type 0 where
   pub order : t ≤ end

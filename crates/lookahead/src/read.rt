@@ -9,27 +9,21 @@ pub fn code_at(toks: &[u32], at: TokenNumber) -> u32
     requires { 3 * at.0 + 3 ≤ length toks.now }
     ensures { result ≡ code_at toks.now at.0 }
 {
-    let t = at.0;
-    let i = 3 * (t as usize);
-    toks[i]
+    toks[3 * (at.0 as usize)]
 }
 
 pub fn start_at(toks: &[u32], at: TokenNumber) -> Place
     requires { 3 * at.0 + 3 ≤ length toks.now }
     ensures { result.0 ≡ start_at toks.now at.0 }
 {
-    let t = at.0;
-    let i = 3 * (t as usize) + 1;
-    Place(toks[i])
+    Place(toks[3 * (at.0 as usize) + 1])
 }
 
 pub fn end_at(toks: &[u32], at: TokenNumber) -> Place
     requires { 3 * at.0 + 3 ≤ length toks.now }
     ensures { result.0 ≡ end_at toks.now at.0 }
 {
-    let t = at.0;
-    let i = 3 * (t as usize) + 2;
-    Place(toks[i])
+    Place(toks[3 * (at.0 as usize) + 2])
 }
 
 // The token's code, or TEE where it is the name `t`.
@@ -39,15 +33,13 @@ pub fn symbol_at(src: &[u8], toks: &[u32], at: TokenNumber) -> u32
     ensures { result ≡ symbol_at src.now toks.now at.0 }
 {
     let code = code_at(toks, at);
-    if code == token::IDENTIFIER {
-        let start = start_at(toks, at);
-        let end = end_at(toks, at);
-        let from = start.0;
-        if end.0 == from + 1 {
-            if source::byte(src, from as usize) == b't' {
-                return crate::TEE;
-            }
-        }
+    let start = start_at(toks, at).0;
+    if code == token::IDENTIFIER
+        && end_at(toks, at).0 == start + 1
+        && source::byte(src, start as usize) == b't'
+    {
+        crate::TEE
+    } else {
+        code
     }
-    code
 }

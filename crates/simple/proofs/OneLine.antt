@@ -6,6 +6,7 @@ use mathlib.Core.List.{List, [], ◌∷◌}
 use Prim.Native.Nat.{ℕ, ◌+◌, ◌-◌, ◌*◌, ◌≤◌}
 use native.Mathlib.Omega.{arith}
 use lib.ListN.{length}
+use Rattle.std.specs.Prelude.{Option, Some}
 use Rattle.grammar.specs.Sets.{mem}
 use Rattle.grammar.specs.Grammar.{Part, act, call, ◌⨾◌, tail}
 use Rattle.grammar.specs.Descent.{null, begins}
@@ -17,21 +18,19 @@ use Rattle.pyhyeon.specs.Rules.{Rule, Simple}
 use Rattle.pyhyeon.specs.Rules as rules
 use Rattle.pyhyeon.specs.Tables.{first, first_simple, rank}
 use Rattle.leaves.specs.declared.State.{State}
-use Rattle.leaves.specs.declared.Parsed.{Parsed}
-use Rattle.leaves.specs.declared.Parsed.TheVariants.{Node, Refused}
 use Rattle.lookahead.specs.Tokens.{symbol_at}
-use Rattle.leaves.specs.Contract.{past, a_node, a_growing, Rules, Comes, Parts}
+use Rattle.source.specs.declared.refusal.Reason.{Reason}
+use Rattle.leaves.specs.Contract.{Parsed, read, refused, past, a_node, a_growing, Rules, Comes, Parts}
 use Rattle.joint.proofs.Chain.{part_then, part_stop, list_on, list_shut, list_end}
 use Rattle.joint.proofs.Counts.{Came, came_node, pays_simple}
 use Rattle.joint.proofs.Ends.{one_then}
 use Rattle.joint.proofs.Loops.{ready_of}
 use Rattle.simple.specs.declared.Gathered.{Gathered}
-use Rattle.simple.specs.declared.Gathered.TheVariants as gathered
 use Rattle.simple.specs.Parts.{Newest, line_end_lem}
-use Rattle.simple.specs.Lists.{Held, Appended}
+use Rattle.simple.specs.Lists.{Appended}
 use Rattle.simple.proofs.Low.{low_simples}
 use Rattle.joint.proofs.Taken.{Taken}
-use Rattle.simple.proofs.Gathering.{Gathering, gathering_read, gathering_came, gathering_room, gathering_held, appended_then, held_list}
+use Rattle.simple.proofs.Gathering.{Gathering, gathering_read, gathering_came, gathering_room, appended_then, held_list}
 
 -- all after the first Simple
 abbrev simples_on : Part Action Rule
@@ -41,15 +40,15 @@ simples_on = tail code.Semicolon (rules.more (call Simple)) ⨾ line_end_lem
 abbrev pub item : Part Action Rule → Part Action Rule
 item q = call Simple ⨾ act list_one ⨾ q
 
-abbrev pub Reading : (src toks : List ℕ) → ℕ → State → List ℕ → Gathered → State → List ℕ → Type 0
+abbrev pub Reading : (src toks : List ℕ) → ℕ → State → List ℕ → Option Gathered → State → List ℕ → Type 0
 Reading src toks room u tr₀ b st tr = Gathering src toks room 2 Simple a_growing rules.simples item simples_on u tr₀ b st tr
 
-module _ {src toks : List ℕ} {room : ℕ} {u : State} {tr₀ : List ℕ} {b : Gathered} {st : State} {tr : List ℕ} (i : Reading src toks room u tr₀ b st tr) {inner : Parsed} {tr₁ : List ℕ} (c : Rules src toks room Simple a_node st tr inner tr₁) where
+module _ {src toks : List ℕ} {room : ℕ} {u : State} {tr₀ : List ℕ} {b : Option Gathered} {st : State} {tr : List ℕ} (i : Reading src toks room u tr₀ b st tr) {inner : Parsed} {tr₁ : List ℕ} (c : Rules src toks room Simple a_node st tr inner tr₁) where
   -- it was refused
-  pub simples_stop : {k : ℕ} {t : State} → inner ≡ Refused k t → (vs : List Value) → Comes src toks room rules.simples a_growing vs vs u tr₀ (Refused k t) tr₁
+  pub simples_stop : {k : Reason} {t : State} → inner ≡ refused k t → (vs : List Value) → Comes src toks room rules.simples a_growing vs vs u tr₀ (refused k t) tr₁
   simples_stop e vs = i.same vs (part_stop _ (gathering_read i c) e)
 
-  module _ {n : NodeNumber} {after : State} (e : inner ≡ Node n after) where
+  module _ {n : NodeNumber} {after : State} (e : inner ≡ read n after) where
     pub simples_came : Came src toks 9 a_node st n after
     unfolding first rank
     simples_came = gathering_came i c pays_simple refl e
@@ -57,10 +56,6 @@ module _ {src toks : List ℕ} {room : ℕ} {u : State} {tr₀ : List ℕ} {b : 
     pub simples_room : length tr₁ ≡ length tr → 8 * after.nodes + 8 ≤ length tr₁
     unfolding first
     simples_room k = gathering_room i c pays_simple refl e k
-
-    pub simples_held : Held b after
-    unfolding first
-    simples_held = gathering_held i c pays_simple refl e
 
     module _ {f : NodeNumber} {tr₂ : List ℕ} (j : Appended src toks b n after tr₁ f tr₂) where
       -- what all comes to, by what is read behind the Simple
@@ -83,7 +78,7 @@ module _ {src toks : List ℕ} {room : ℕ} {u : State} {tr₀ : List ℕ} {b : 
 
       -- a `;` and a Simple stand behind it
       pub simples_goes : length tr₁ ≡ length tr → length tr₂ ≡ length tr₁ → Taken src toks (code.Semicolon ∷ []) after → mem (symbol_at src toks (after.at.0 + 1)) first_simple ≡ true →
-          Reading src toks room u tr₀ (gathered.List f n) (past after) tr₂
+          Reading src toks room u tr₀ (Some (record { first = f; last = n })) (past after) tr₂
       unfolding first begins null
       simples_goes k k₂ d g =
           let w = i.ready in

@@ -9,17 +9,15 @@ use lib.ListN.{length}
 use Rattle.grammar.specs.Sets.{mem}
 use Rattle.grammar.specs.Descent.{null, begins}
 use Rattle.token.specs.Code as code
-use Rattle.token.specs.declared.TokenNumber.{TokenNumber}
 use Rattle.token.specs.declared.NodeNumber.{NodeNumber}
 use Rattle.pyhyeon.specs.Machine.{Value, node}
 use Rattle.pyhyeon.specs.Rules.{Simple, plain}
 use Rattle.pyhyeon.specs.Tables.{joined, first, first_e, first_simple, t_joined}
 use Rattle.leaves.specs.declared.State.{State}
 use Rattle.leaves.specs.declared.Added.{Added}
-use Rattle.leaves.specs.declared.Parsed.{Parsed}
-use Rattle.leaves.specs.declared.Parsed.TheVariants.{Node, Refused}
 use Rattle.lookahead.specs.Tokens.{eof_at, text_before, symbol_at}
-use Rattle.leaves.specs.Contract.{past, a_node, Comes, Parts, Ready, Spot, Writes}
+use Rattle.source.specs.declared.refusal.Reason.{Reason}
+use Rattle.leaves.specs.Contract.{Parsed, read, refused, past, a_node, Comes, Parts, Ready, Spot, Writes}
 use Rattle.lookahead.proofs.Tests.{among_first, not_first}
 use Rattle.joint.proofs.Chain.{raised, tok_then, part_then, part_stop}
 use Rattle.joint.proofs.Choices.{absent, starts, or_first, or_next}
@@ -32,20 +30,14 @@ use Rattle.simple.specs.Roles.{does, behind, stated, hand, targets, Placed}
 use Rattle.simple.proofs.Low.{modest_t, some_t}
 use Rattle.joint.proofs.Taken.{Taken, taken, taken_ready}
 
--- where a keyword, or a target, lies
-pub placed_return : {k : TokenNumber} {s : State} → k.0 < s.at.0 → Placed (role.Return k) s
-placed_return {k} h = record { keyword = λ k₁ e. let a : k ≡ k₁ = cc in rw (← a) h; target = λ n e. let z : ◌≡◌ {A = ℕ} 0 1 = cc in absurd (omega arith) }
-
-pub placed_first : (s : State) → Placed role.First s
-placed_first s = record { keyword = λ k e. let z : ◌≡◌ {A = ℕ} 0 1 = cc in absurd (omega arith); target = λ n e. let z : ◌≡◌ {A = ℕ} 0 1 = cc in absurd (omega arith) }
-
-pub placed_value : {n : NodeNumber} {s : State} → n.0 < s.nodes → Placed (role.Value n) s
-placed_value {n} h = record { keyword = λ k e. let z : ◌≡◌ {A = ℕ} 0 1 = cc in absurd (omega arith); target = λ n₁ e. let a : n ≡ n₁ = cc in rw (← a) h }
+-- where a target lies
+placed_value : {n : NodeNumber} {s : State} → n.0 < s.nodes → Placed (role.Value n) s
+placed_value {n} h = record { keyword = λ k e. absurd cc; target = λ n₁ e. let a : n ≡ n₁ = cc in rw (← a) h }
 
 -- what is behind a t: its statement's node, or the value of a target
 module _ {src toks : List ℕ} {room : ℕ} {s : State} {tr : List ℕ} {vs : List Value} {n : NodeNumber} (h : s.at.0 ≤ eof_at toks) where
   behind_ends : (r : Role) {made : Added} {tr' : List ℕ} → targets src toks s.at.0 r ≡ false → s.used ≡ text_before src toks s.at.0 → Writes src toks (does r) (node n.0 ∷ hand r) s tr made tr' →
-      Comes src toks room (behind r) a_node vs (node n.0 ∷ hand r ++ vs) s tr (Node made.0 made.1) tr'
+      Comes src toks room (behind r) a_node vs (node n.0 ∷ hand r ++ vs) s tr (read made.0 made.1) tr'
   unfolding begins null
   behind_ends (role.Return k) f u w = act_wrote u w
   behind_ends role.First f u w = or_next h f (absent refl) (act_wrote u w)
@@ -54,15 +46,15 @@ module _ {src toks : List ℕ} {room : ℕ} {s : State} {tr : List ℕ} {vs : Li
   behind_turns : (r : Role) {a : Parsed} {t : List ℕ} → targets src toks s.at.0 r ≡ true → Comes src toks room (stated (role.Value n)) a_node vs (node n.0 ∷ vs) (past s) tr a t →
       Comes src toks room (behind r) a_node vs (node n.0 ∷ hand r ++ vs) s tr a t
   unfolding begins null
-  behind_turns (role.Return k) f c = let z : ◌≡◌ {A = ℕ} 0 1 = cc in absurd (omega arith)
+  behind_turns (role.Return k) f c = absurd cc
   behind_turns role.First f c = or_first h f (tok_then h f c)
-  behind_turns (role.Value m) f c = let z : ◌≡◌ {A = ℕ} 0 1 = cc in absurd (omega arith)
+  behind_turns (role.Value m) f c = absurd cc
 
 -- a target has its `=` behind it
 target_seen : (src toks : List ℕ) (i : ℕ) (r : Role) → targets src toks i r ≡ true → mem (symbol_at src toks i) (code.Equal ∷ []) ≡ true
-target_seen src toks i (role.Return k) f = let z : ◌≡◌ {A = ℕ} 0 1 = cc in absurd (omega arith)
+target_seen src toks i (role.Return k) f = absurd cc
 target_seen src toks i role.First f = f
-target_seen src toks i (role.Value n) f = let z : ◌≡◌ {A = ℕ} 0 1 = cc in absurd (omega arith)
+target_seen src toks i (role.Value n) f = absurd cc
 
 -- The loop: the t at st has the role r, and whatever the statement comes to from there, it comes to from u, whose t has the role `what`.
 pub record Stating (src toks : List ℕ) (room : ℕ) (what : Role) (u : State) (tr₀ : List ℕ) (r : Role) (st : State) (tr : List ℕ) : Type 0 where
@@ -71,16 +63,13 @@ pub record Stating (src toks : List ℕ) (room : ℕ) (what : Role) (u : State) 
   pub placed : Placed r st
   pub same : (vs : List Value) {a : Parsed} {t : List ℕ} → Comes src toks room (stated r) a_node vs (hand r ++ vs) st tr a t → Comes src toks room (stated what) a_node vs (hand what ++ vs) u tr₀ a t
 
-pub stating_starts : {src toks : List ℕ} {room : ℕ} {r : Role} {u : State} {tr : List ℕ} → Ready src toks tr u 3 → Placed r u → Stating src toks room r u tr r u tr
-stating_starts w p = record { ready = w; long = refl; placed = p; same = λ vs c. c }
-
 module _ {src toks : List ℕ} {room : ℕ} {what : Role} {u : State} {tr₀ : List ℕ} {r : Role} {st : State} {tr : List ℕ} (i : Stating src toks room what u tr₀ r st tr) {inner : Parsed} {tr₁ : List ℕ} (c : Parts src toks room t_joined [] a_node st tr inner tr₁) where
   -- the t was refused
-  pub stating_stops : {k : ℕ} {t : State} → inner ≡ Refused k t → (vs : List Value) → Comes src toks room (stated what) a_node vs (hand what ++ vs) u tr₀ (Refused k t) tr₁
+  pub stating_stops : {k : Reason} {t : State} → inner ≡ refused k t → (vs : List Value) → Comes src toks room (stated what) a_node vs (hand what ++ vs) u tr₀ (refused k t) tr₁
   stating_stops e vs = i.same vs (part_stop _ c e)
 
   -- it was read
-  module _ {n : NodeNumber} {after : State} (e : inner ≡ Node n after) where
+  module _ {n : NodeNumber} {after : State} (e : inner ≡ read n after) where
     pub stating_came : Came src toks 10 a_node st n after
     stating_came = came_fresh _ _ i.ready.tokens modest_t some_t i.ready.here c e
 
@@ -104,7 +93,7 @@ module _ {src toks : List ℕ} {room : ℕ} {what : Role} {u : State} {tr₀ : L
 
       -- it is the statement's last
       pub stating_ends : {x : Bool} {made : Added} {tr₂ : List ℕ} → x ≡ targets src toks after.at.0 r → x ≡ false → Writes src toks (does r) (node n.0 ∷ hand r) after tr₁ made tr₂ → (vs : List Value) →
-          Comes src toks room (stated what) a_node vs (hand what ++ vs) u tr₀ (Node made.0 made.1) tr₂
+          Comes src toks room (stated what) a_node vs (hand what ++ vs) u tr₀ (read made.0 made.1) tr₂
       stating_ends d f w vs = i.same vs (part_then c e (behind_ends stating_came.here r (sym d ∙ f) stating_came.used w))
 
       -- it is a target
@@ -123,7 +112,6 @@ module _ {src toks : List ℕ} {room : ℕ} {what : Role} {u : State} {tr₀ : L
 -- Where the first t of a Simple that opened at s is read, and its role: behind `return`, or at once.
 pub record Opening (src toks : List ℕ) (s : State) (tr : List ℕ) (r : Role) (st : State) : Type 0 where
   pub ready : Ready src toks tr st 3
-  pub placed : Placed r st
   pub same : {room : ℕ} (vs : List Value) {a : Parsed} {t : List ℕ} → Comes src toks room (stated r) a_node vs (hand r ++ vs) st tr a t → Comes src toks room (joined Simple) a_node vs vs (raised s) tr a t
 
 module _ {src toks : List ℕ} {s : State} {tr : List ℕ} (w : Ready src toks tr s 2) where
@@ -133,7 +121,6 @@ module _ {src toks : List ℕ} {s : State} {tr : List ℕ} (w : Ready src toks t
       let l = taken_ready (code.Return ∷ []) refl refl w e in
       record {
         ready = ready_of w.tokens (omega (arith, w.room), l.inside, omega (arith, w.nodes), omega (arith, w.opened), l.used);
-        placed = placed_return (omega arith);
         same = λ vs c. or_first w.here e (tok_mark w.here e c);
       }
 
@@ -141,7 +128,6 @@ module _ {src toks : List ℕ} {s : State} {tr : List ℕ} (w : Ready src toks t
   unfolding joined plain first begins null
   opening_first f e = record {
     ready = ready_of w.tokens (omega (arith, w.room), w.here, w.nodes, omega (arith, w.opened), w.used);
-    placed = placed_first _;
     same = λ vs c. or_next w.here f (starts (among_first first_e (code.Break ∷ code.Continue ∷ code.Pass ∷ []) (symbol_at src toks s.at.0) e)) (or_first w.here e c);
   }
 

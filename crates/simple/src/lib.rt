@@ -14,7 +14,8 @@ ghost use Rattle.simple.specs.Parts.{Newest, line_end_lem};
 ghost use Rattle.simple.specs.Roles.{stated, hand, does, targets, Placed};
 ghost use Rattle.simple.specs.Lists.{Held, Appended};
 
-use leaves::{Added, Parsed, State};
+use leaves::{Added, Parsed, Refused, State};
+use source::Reason;
 use token::{NodeNumber, TokenNumber};
 
 // What a t is to its statement: what the Return of this keyword gives; its first t, which may be a target; or the value of this target.
@@ -25,11 +26,11 @@ enum Role {
     Value(NodeNumber),
 }
 
-// What is gathered before a statement or a Line: nothing, or a list in the making, by its first node and its last.
+// What is gathered before a statement or a Line where that is not nothing: a list in the making, by its first node and its last.
 #[derive(Clone, Copy)]
-pub enum Gathered {
-    Nothing,
-    List(NodeNumber, NodeNumber),
+pub struct Gathered {
+    pub first: NodeNumber,
+    pub last: NodeNumber,
 }
 
 // Simple: return t; t = t; t; break; continue; pass.
@@ -39,28 +40,18 @@ pub fn rule_simple(src: &[u8], toks: &[u32], tree: &mut [u32], left: u32, s: Sta
     ensures rules { Rules src.now toks.now left Simple a_node s tree.old result tree.new }
     ensures newest { Newest result }
 {
-    let at = s.at;
-    let opened = s.opened + 1;
     let up = State {
-        at: at,
-        nodes: s.nodes,
-        opened: opened,
-        used: s.used,
+        opened: s.opened + 1,
+        ..s
     };
     let on = leaves::past(up);
-    let mut role = Role::First;
-    let mut st = up;
-    match lookahead::symbol_at(src, toks, at) {
-        token::BREAK => return word(toks, tree, ast::BREAK, on),
-        token::CONTINUE => return word(toks, tree, ast::CONTINUE, on),
-        token::PASS => return word(toks, tree, ast::PASS, on),
-        token::RETURN => {
-            role = Role::Return(at);
-            st = on;
-        }
-        _ => {}
+    match lookahead::symbol_at(src, toks, s.at) {
+        token::BREAK => word(toks, tree, ast::BREAK, on),
+        token::CONTINUE => word(toks, tree, ast::CONTINUE, on),
+        token::PASS => word(toks, tree, ast::PASS, on),
+        token::RETURN => statement(src, toks, tree, left, Role::Return(s.at), on),
+        _ => statement(src, toks, tree, left, Role::First, up),
     }
-    statement(src, toks, tree, left, role, st)
 }
 
 // The Break, Continue or Pass of the word that was taken.
@@ -69,10 +60,7 @@ fn word(toks: &[u32], tree: &mut [u32], kind: u32, s: State) -> Parsed
     ensures by_index { (src : List ℕ) (room : ℕ) → s.used ≡ text_before src toks.now s.at.0 → Parts src toks.now room (act (alone kind)) [] a_node s tree.old result tree.new }
     ensures newest { Newest result }
 {
-    let made = stmt_leaves::put_alone(toks, tree, kind, s);
-    let n = made.0;
-    let after = made.1;
-    Parsed::Node(n, after)
+    Ok(stmt_leaves::put_alone(toks, tree, kind, s))
 }
 
 // A statement from its t on, whose role is `what`: behind a target the value is read next.
@@ -85,22 +73,12 @@ fn statement(src: &[u8], toks: &[u32], tree: &mut [u32], left: u32, what: Role, 
     let mut role = what;
     let mut st = s;
     loop {
-        let inner = expr::comma_list(src, toks, tree, left, st);
-        match inner {
-            Parsed::Node(n, after) => {
-                let at = after.at;
-                if is_target(src, toks, role, at) {
-                    role = Role::Value(n);
-                    st = leaves::past(after);
-                } else {
-                    let made = put(toks, tree, role, n, after);
-                    let m = made.0;
-                    let done = made.1;
-                    return Parsed::Node(m, done);
-                }
-            }
-            Parsed::Refused(code, after) => return Parsed::Refused(code, after),
+        let Added(n, after) = expr::comma_list(src, toks, tree, left, st)?;
+        if !is_target(src, toks, role, after.at) {
+            return Ok(put(toks, tree, role, n, after));
         }
+        role = Role::Value(n);
+        st = leaves::past(after);
     }
 }
 
@@ -110,11 +88,8 @@ fn is_target(src: &[u8], toks: &[u32], role: Role, at: TokenNumber) -> bool
     requires at_bound { at.0 ≤ eof_at toks.now }
     ensures { result ≡ targets src.now toks.now at.0 role }
 {
-    match role {
-        Role::Return(_) => false,
-        Role::First => lookahead::is_symbol(lookahead::symbol_at(src, toks, at), token::EQUAL),
-        Role::Value(_) => false,
-    }
+    matches!(role, Role::First)
+        && lookahead::is_symbol(lookahead::symbol_at(src, toks, at), token::EQUAL)
 }
 
 // The statement whose last t is the node n.
@@ -135,47 +110,35 @@ pub fn simples(src: &[u8], toks: &[u32], tree: &mut [u32], left: u32, s: State) 
     requires { Ready src.now toks.now tree.old s 2 }
     ensures { Parts src.now toks.now left rules.simples [] a_growing s tree.old result tree.new }
 {
-    let at = s.at;
-    if lookahead::begins_simple(lookahead::symbol_at(src, toks, at)) {
-        let mut gathered = Gathered::Nothing;
-        let mut st = s;
-        loop {
-            let inner = rule_simple(src, toks, tree, left, st);
-            match inner {
-                Parsed::Node(n, done) => {
-                    let first = append(tree, gathered, n, done);
-                    let end = done.at;
-                    let symbol = lookahead::symbol_at(src, toks, end);
-                    if lookahead::is_symbol(symbol, token::SEMICOLON) {
-                        let on = leaves::past(done);
-                        let next = on.at;
-                        if lookahead::begins_simple(lookahead::symbol_at(src, toks, next)) {
-                            gathered = Gathered::List(first, n);
-                            st = on;
-                        } else {
-                            return line_end(src, toks, first, on);
-                        }
-                    } else {
-                        return line_end(src, toks, first, done);
-                    }
-                }
-                Parsed::Refused(code, after) => return Parsed::Refused(code, after),
-            }
+    if !lookahead::begins_simple(lookahead::symbol_at(src, toks, s.at)) {
+        return Err(Refused(Reason::Misfit, s));
+    }
+    let mut gathered = None;
+    let mut st = s;
+    loop {
+        let Added(n, done) = rule_simple(src, toks, tree, left, st)?;
+        let first = append(tree, gathered, n, done);
+        if !lookahead::is_symbol(lookahead::symbol_at(src, toks, done.at), token::SEMICOLON) {
+            return line_end(src, toks, first, done);
         }
-    } else {
-        Parsed::Refused(14, s)
+        let on = leaves::past(done);
+        if !lookahead::begins_simple(lookahead::symbol_at(src, toks, on.at)) {
+            return line_end(src, toks, first, on);
+        }
+        gathered = Some(Gathered { first, last: n });
+        st = on;
     }
 }
 
 // The list that begins at the node n, behind what is gathered before it: the first node of both.
-pub fn append(tree: &mut [u32], gathered: Gathered, n: NodeNumber, s: State) -> NodeNumber
+pub fn append(tree: &mut [u32], gathered: Option<Gathered>, n: NodeNumber, s: State) -> NodeNumber
     requires nodes_in_bounds { 8 * s.nodes + 8 ≤ length tree.old }
     requires held { Held gathered s }
     ensures { (src toks : List ℕ) → Appended src toks gathered n s tree.old result tree.new }
 {
     match gathered {
-        Gathered::Nothing => n,
-        Gathered::List(first, last) => {
+        None => n,
+        Some(Gathered { first, last }) => {
             leaves::link(tree, last, n, s);
             first
         }
@@ -188,10 +151,9 @@ fn line_end(src: &[u8], toks: &[u32], first: NodeNumber, s: State) -> Parsed
     requires at_bound { (s.at.0 ≤ eof_at toks.now) × (s.used ≡ text_before src.now toks.now s.at.0) }
     ensures { (room : ℕ) (tr : List ℕ) → Parts src.now toks.now room line_end_lem (growing first.0 (s.nodes - 1) ∷ []) a_growing s tr result tr }
 {
-    let at = s.at;
-    match lookahead::symbol_at(src, toks, at) {
-        token::NEWLINE => Parsed::Node(first, leaves::past(s)),
-        token::EOF => Parsed::Node(first, s),
-        _ => Parsed::Refused(14, s),
+    match lookahead::symbol_at(src, toks, s.at) {
+        token::NEWLINE => Ok(Added(first, leaves::past(s))),
+        token::EOF => Ok(Added(first, s)),
+        _ => Err(Refused(Reason::Misfit, s)),
     }
 }

@@ -8,6 +8,7 @@ use Prim.Native.Nat.{ℕ, ◌+◌, ◌-◌, ◌*◌, ◌≤◌}
 use native.Mathlib.Omega.{arith}
 use lib.Dec.{T, eqb}
 use lib.ListN.{length}
+use Rattle.std.specs.Prelude.{Option, Some, Ok, Err}
 use Rattle.grammar.specs.Sets.{mem}
 use Rattle.grammar.specs.Grammar.{Part, act, call, many, ◌⨾◌}
 use Rattle.grammar.specs.Descent.{null, begins}
@@ -21,9 +22,8 @@ use Rattle.pyhyeon.specs.Rules.{Rule, Line, newlines}
 use Rattle.pyhyeon.specs.Tables.{first, first_line, least, rank, lines_on, pyhyeon}
 use Rattle.pyhyeon.specs.Prices.{writes, needs, gives}
 use Rattle.leaves.specs.declared.State.{State}
-use Rattle.leaves.specs.declared.Parsed.{Parsed}
-use Rattle.leaves.specs.declared.Parsed.TheVariants.{Node, Refused}
-use Rattle.leaves.specs.Contract.{a_node, a_list, a_growing, Rules, Comes, Parts}
+use Rattle.source.specs.declared.refusal.Reason.{Reason}
+use Rattle.leaves.specs.Contract.{Parsed, read, refused, a_node, a_list, a_growing, Rules, Comes, Parts}
 use Rattle.lookahead.specs.Run.{Run}
 use Rattle.lookahead.specs.Tokens.{text_before, symbol_at}
 use Rattle.leaves.proofs.Frames.{frame_none}
@@ -34,7 +34,6 @@ use Rattle.joint.proofs.Loops.{ready_of}
 use Rattle.joint.proofs.Passing.{moved, newlines_pass, run_text}
 use Rattle.simple.specs.Parts.{Newest}
 use Rattle.simple.specs.declared.Gathered.{Gathered}
-use Rattle.simple.specs.declared.Gathered.TheVariants as gathered
 use Rattle.simple.specs.Lists.{Held, Appended}
 use Rattle.simple.proofs.Gathering.{Gathering, gathering_read, gathering_came, gathering_room, gathering_held, appended_then, held_list, held_later}
 use Rattle.stmt.specs.Parts.{inside_on}
@@ -74,31 +73,31 @@ module _ {src toks : List ℕ} {room : ℕ} {p : Part Action Rule} {ins : List V
   -- a node that was written last, as a list of one
   pub one_through : (a : Parsed) → Parts src toks room p ins a_node s tr a tr' → Newest a → (vs : List Value) → Comes src toks room (p ⨟ act list_one) a_growing vs (ins ++ vs) s tr a tr'
   unfolding perform one
-  one_through (Node n s₁) reads w vs =
-      let l : n.0 + 1 ≡ s₁.nodes = w.last n s₁ refl in
-      let d : s₁.nodes - 1 ≡ n.0 = omega arith in
+  one_through (Ok r) reads w vs =
+      let l : r.0.0 + 1 ≡ r.1.nodes = w.last r.0 r.1 refl in
+      let d : r.1.nodes - 1 ≡ r.0.0 = omega arith in
       flat_then reads refl (act_last {out = a_growing} (rw d refl) refl refl frame_none (is_used (reads.comes vs).told refl))
-  one_through (Refused k s₁) reads w vs = flat_stop _ vs reads refl
+  one_through (Err r) reads w vs = flat_stop _ vs reads refl
 
   -- a list in the making, as a whole one
   pub list_through : (a : Parsed) → Parts src toks room p ins a_growing s tr a tr' → (vs : List Value) → Comes src toks room (p ⨾ act list_done) a_list vs (ins ++ vs) s tr a tr'
-  list_through (Node n s₁) reads vs = part_then reads refl (list_last (is_used (reads.comes vs).told refl))
-  list_through (Refused k s₁) reads vs = part_stop vs reads refl
+  list_through (Ok r) reads vs = part_then reads refl (list_last (is_used (reads.comes vs).told refl))
+  list_through (Err r) reads vs = part_stop vs reads refl
 
 -- a Line, with what follows it; and the loop that reads Lines
 abbrev pub item : Part Action Rule → Part Action Rule
 item q = call Line ⨾ newlines ⨾ q
 
-abbrev pub Reading : (src toks : List ℕ) → ℕ → State → List ℕ → Gathered → State → List ℕ → Type 0
+abbrev pub Reading : (src toks : List ℕ) → ℕ → State → List ℕ → Option Gathered → State → List ℕ → Type 0
 Reading src toks room u tr₀ b st tr = Gathering src toks room 1 Line a_list lines_on item (many further ⨾ act list_done) u tr₀ b st tr
 
-module _ {src toks : List ℕ} {room : ℕ} {u : State} {tr₀ : List ℕ} {b : Gathered} {st : State} {tr : List ℕ} (i : Reading src toks room u tr₀ b st tr) {inner : Parsed} {tr₁ : List ℕ} (c : Rules src toks room Line a_growing st tr inner tr₁) where
+module _ {src toks : List ℕ} {room : ℕ} {u : State} {tr₀ : List ℕ} {b : Option Gathered} {st : State} {tr : List ℕ} (i : Reading src toks room u tr₀ b st tr) {inner : Parsed} {tr₁ : List ℕ} (c : Rules src toks room Line a_growing st tr inner tr₁) where
   -- the Line was refused
-  pub lines_stop : {k : ℕ} {t : State} → inner ≡ Refused k t → (vs : List Value) → Comes src toks room lines_on a_list vs vs u tr₀ (Refused k t) tr₁
+  pub lines_stop : {k : Reason} {t : State} → inner ≡ refused k t → (vs : List Value) → Comes src toks room lines_on a_list vs vs u tr₀ (refused k t) tr₁
   lines_stop e vs = i.same vs (part_stop _ (gathering_read i c) e)
 
   -- it was read
-  module _ {n : NodeNumber} {after : State} (e : inner ≡ Node n after) where
+  module _ {n : NodeNumber} {after : State} (e : inner ≡ read n after) where
     pub lines_came : Came src toks 10 a_growing st n after
     unfolding first rank
     lines_came = gathering_came i c pays_line refl e
@@ -122,11 +121,11 @@ module _ {src toks : List ℕ} {room : ℕ} {u : State} {tr₀ : List ℕ} {b : 
         behind_is {vs} x = i.same vs (part_then (gathering_read i c) e (newlines_pass g (appended_then b j x)))
 
         -- no Line stands there; or one
-        pub lines_end : mem (symbol_at src toks end) first_line ≡ false → (vs : List Value) → Comes src toks room lines_on a_list vs vs u tr₀ (Node f (moved after end)) tr₂
+        pub lines_end : mem (symbol_at src toks end) first_line ≡ false → (vs : List Value) → Comes src toks room lines_on a_list vs vs u tr₀ (read f (moved after end)) tr₂
         unfolding first begins null
         lines_end h vs = behind_is (many_end low_lines g.inside h (list_last used))
 
-        pub lines_goes : length tr₁ ≡ length tr → length tr₂ ≡ length tr₁ → mem (symbol_at src toks end) first_line ≡ true → Reading src toks room u tr₀ (gathered.List f (record { 0 = after.nodes - 1 })) (moved after end) tr₂
+        pub lines_goes : length tr₁ ≡ length tr → length tr₂ ≡ length tr₁ → mem (symbol_at src toks end) first_line ≡ true → Reading src toks room u tr₀ (Some (record { first = f; last = record { 0 = after.nodes - 1 } })) (moved after end) tr₂
         unfolding first begins null
         lines_goes k k₂ h =
             let w = i.ready in

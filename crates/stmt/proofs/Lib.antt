@@ -3,3 +3,4 @@ pub mod Branches
 pub mod Classes
 pub mod Guards
 pub mod Members
+pub mod Taking

@@ -3,43 +3,41 @@
 use Prim.Native.Nat.{ℕ, ◌≤◌}
 use mathlib.Core.Path.{◌≡◌, refl}
 use mathlib.Core.Bool.{Bool, true, false}
-use mathlib.Core.List.{List, [], ◌∷◌, ◌++◌}
+use mathlib.Core.List.{List, [], ◌∷◌}
 use Rattle.grammar.specs.Sets.{mem}
 use Rattle.grammar.specs.Grammar.{Part, act, ◌⨾◌}
 use Rattle.grammar.specs.Descent.{null, begins}
 use Rattle.token.specs.Code as code
 use Rattle.token.specs.declared.NodeNumber.{NodeNumber}
 use Rattle.pyhyeon.specs.Machine.{Value, node}
-use Rattle.pyhyeon.specs.Action.{Action, list_one, list_join, list_done}
+use Rattle.pyhyeon.specs.Action.{Action, list_one, list_join}
 use Rattle.pyhyeon.specs.Rules.{Rule}
 use Rattle.leaves.specs.declared.State.{State}
-use Rattle.leaves.specs.declared.Parsed.{Parsed}
-use Rattle.leaves.specs.declared.Parsed.TheVariants.{Node, Refused}
 use Rattle.lookahead.specs.Tokens.{eof_at, symbol_at, Tokens}
-use Rattle.leaves.specs.Contract.{Shape, a_node, a_list, Comes, Parts, Lists}
+use Rattle.source.specs.declared.refusal.Reason.{Reason}
+use Rattle.leaves.specs.Contract.{Parsed, read, refused, Shape, a_node, Comes, Parts}
 use Rattle.lookahead.proofs.Tokens.{before_eof}
 use Rattle.joint.proofs.Chain.{flat, flat_then, flat_stop, part_then, part_stop, many_on, many_end}
 use Rattle.joint.proofs.Counts.{Came, came_start}
-use Rattle.joint.proofs.Ends.{list_last}
 use Rattle.stmt.specs.Parts.{leading, member, others, elif_on}
 use Rattle.stmt.proofs.Branches.{low_elifs, taking_elif}
 use Rattle.stmt.proofs.Classes.{low_methods, taking_method}
 
 module _ {src toks : List ℕ} {room : ℕ} {s s₁ : State} {tr tr₁ : List ℕ} {b : Parsed} where
-  pub came_member : {n : NodeNumber} (methods : Bool) → Tokens src toks → s.at.0 ≤ eof_at toks → mem (symbol_at src toks s.at.0) (leading methods ∷ []) ≡ true → Parts src toks room (member methods) [] a_node s tr b tr₁ → b ≡ Node n s₁ →
+  pub came_member : {n : NodeNumber} (methods : Bool) → Tokens src toks → s.at.0 ≤ eof_at toks → mem (symbol_at src toks s.at.0) (leading methods ∷ []) ≡ true → Parts src toks room (member methods) [] a_node s tr b tr₁ → b ≡ read n s₁ →
       Came src toks 0 a_node s n s₁
   came_member true w h e r p = came_start _ _ w taking_method (before_eof (code.Def ∷ []) refl w h e) r p
   came_member false w h e r p = came_start _ _ w taking_elif (before_eof (code.Elif ∷ []) refl w h e) r p
 
   -- one more of them, and the rest after it; one that is refused
-  pub others_on : {n : NodeNumber} {out : Shape} {vs ws : List Value} {q : Part Action Rule} {a : Parsed} {t : List ℕ} (methods : Bool) → s.at.0 ≤ eof_at toks → mem (symbol_at src toks s.at.0) (leading methods ∷ []) ≡ true → Parts src toks room (member methods) [] a_node s tr b tr₁ → b ≡ Node n s₁ →
+  pub others_on : {n : NodeNumber} {out : Shape} {vs ws : List Value} {q : Part Action Rule} {a : Parsed} {t : List ℕ} (methods : Bool) → s.at.0 ≤ eof_at toks → mem (symbol_at src toks s.at.0) (leading methods ∷ []) ≡ true → Parts src toks room (member methods) [] a_node s tr b tr₁ → b ≡ read n s₁ →
       Comes src toks room (act list_one ⨾ act list_join ⨾ others methods ⨾ q) out vs (node n.0 ∷ ws) s₁ tr₁ a t → Comes src toks room (others methods ⨾ q) out vs ws s tr a t
   unfolding begins null
   others_on true h e r p c = many_on low_methods h e (part_then r p c)
   others_on false h e r p c = many_on low_elifs h e (flat (flat_then {p = elif_on} r p c))
 
-  pub others_stop : {k : ℕ} {out : Shape} {q : Part Action Rule} {vs ws : List Value} (methods : Bool) → s.at.0 ≤ eof_at toks → mem (symbol_at src toks s.at.0) (leading methods ∷ []) ≡ true → Parts src toks room (member methods) [] a_node s tr b tr₁ → b ≡ Refused k s₁ →
-      Comes src toks room (others methods ⨾ q) out vs ws s tr (Refused k s₁) tr₁
+  pub others_stop : {k : Reason} {out : Shape} {q : Part Action Rule} {vs ws : List Value} (methods : Bool) → s.at.0 ≤ eof_at toks → mem (symbol_at src toks s.at.0) (leading methods ∷ []) ≡ true → Parts src toks room (member methods) [] a_node s tr b tr₁ → b ≡ refused k s₁ →
+      Comes src toks room (others methods ⨾ q) out vs ws s tr (refused k s₁) tr₁
   unfolding begins null
   others_stop true h e r p = many_on low_methods h e (part_stop _ r p)
   others_stop false h e r p = many_on low_elifs h e (flat (flat_stop {p = elif_on} _ _ r p))
@@ -51,8 +49,3 @@ module _ {src toks : List ℕ} {room : ℕ} {s : State} {tr : List ℕ} where
   unfolding begins null
   others_end true h e c = many_end low_methods h e c
   others_end false h e c = many_end low_elifs h e c
-
-  -- the rest of a list, where the list ends behind it
-  pub rest_last : {p : Part Action Rule} {ins : List Value} {t : List ℕ} (a : Parsed) (vs : List Value) → Lists src toks room p ins s tr a t → Comes src toks room (p ⨾ act list_done) a_list vs (ins ++ vs) s tr a t
-  rest_last (Node n s₁) vs l = let d = l.leads n s₁ refl in d.same a_list _ vs vs (list_last d.ready.used)
-  rest_last (Refused k s₁) vs l = l.stops a_list k s₁ refl _ vs vs

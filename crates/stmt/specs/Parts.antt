@@ -1,5 +1,5 @@
--- Where Program begins; and parts of the rules that a function has for itself, each a part of a rule's body (specs/Rules.antt and Tables.antt of
--- pyhyeon). Only contracts cite these.
+-- Where Program begins; and parts of the rules that a function has for itself, or what is left of one from some token on, each a part of a rule's body
+-- (specs/Rules.antt and Tables.antt of pyhyeon). Only contracts cite these.
 -- Assumes nothing.
 use Rattle.std.specs.Prelude.{ℕ, Bool, true, false, [], ◌∷◌}
 use Rattle.grammar.specs.Grammar.{Part, act, see, call, ◌⨾◌, ◌∕◌, many}

@@ -2,41 +2,41 @@
 // one function that takes the running count of openings, raises it by one before it reads a token, and hands it on in every answer. The other
 // functions read parts of rules, and open nothing.
 //
-// Contracts are those of the leaves: `Rules` for a rule, `Parts` for a part of one, `Lists` for the rest of a list; `Guards` for an E and the Block
-// behind it, `Newest` where a statement's node is the last that was written. A Line gives a list in the making (`a_growing`), a Block a list.
+// Contracts are those of the leaves: `Rules` for a rule, `Parts` for a part of one, `Lists` for the rest of a list; `Takes` for one token, `Guards` for an
+// E and the Block behind it, `Newest` where a statement's node is the last that was written. A Line gives a list in the making (`a_growing`), a Block a list.
 #![tactic(auto)]
 
-ghost use Rattle.std.specs.Prelude.{◌≡◌, true, List, [], ◌∷◌, ℕ, ◌<◌, ◌≤◌};
+ghost use Rattle.std.specs.Prelude.{◌≡◌, true, [], ◌∷◌, ◌<◌};
 ghost use Rattle.grammar.specs.Sets.{mem};
 ghost use Rattle.grammar.specs.Grammar.{call};
-ghost use Rattle.token.specs.Code.{Elif, Dedent, Newline};
+ghost use Rattle.token.specs.Code.{Elif};
 ghost use Rattle.ast.specs.Kind as kind;
-ghost use Rattle.pyhyeon.specs.Machine.{token, node, growing, list};
-ghost use Rattle.pyhyeon.specs.Rules.{Line, Block, Class, tk};
+ghost use Rattle.pyhyeon.specs.Machine.{token, growing};
+ghost use Rattle.pyhyeon.specs.Rules.{Line, Block, Class};
 ghost use Rattle.pyhyeon.specs.Rules as rules;
-ghost use Rattle.pyhyeon.specs.Tables.{lines_on, first_line};
-ghost use Rattle.lookahead.specs.Tokens.{eof_at, text_before, symbol_at, Tokens};
+ghost use Rattle.pyhyeon.specs.Tables.{lines_on};
+ghost use Rattle.lookahead.specs.Tokens.{symbol_at};
 ghost use Rattle.leaves.specs.Contract.{a_node, a_list, a_growing, Rules, Parts, Lists, Ready, Begun};
 ghost use Rattle.simple.specs.Parts.{Newest};
 ghost use Rattle.stmt.specs.Guards.{Guards};
-ghost use Rattle.stmt.specs.Parts.{inside_on, indented_on, class_on, leading, member, others, class_body_lem, class_end_lem, named_on, given_on, elifs_on, else_on, branches, if_on, elif_on, while_on, range_on, for_on};
+ghost use Rattle.stmt.specs.Parts.{inside_on, indented_on, leading, member, others, class_body_lem, named_on, elifs_on, else_on, if_on, elif_on, while_on, for_on};
 
+mod take;
 mod whole;
 
-use leaves::{Parsed, State};
+use leaves::{Added, Parsed, Refused, State};
 use simple::Gathered;
+use source::Reason;
+use take::{begins_lines, leads, take, take_name};
 use token::{NodeNumber, TokenNumber};
 pub use whole::program;
 
 // "at most 64 E and Block open at once" (01, Questions).
 const DEPTH: u32 = 64;
 
-// The answer to "E, Block": the node of E, the first node of the Block and the state behind both; or a refusal, as `Parsed` has it.
+// What "E, Block" gives: the node of E, the first node of the Block and the state behind both.
 #[derive(Clone, Copy)]
-enum Clause {
-    Both(NodeNumber, NodeNumber, State),
-    Refused(u32, State),
-}
+struct Clause(NodeNumber, NodeNumber, State);
 
 // Line: class, def, if, while, for, or simples.
 #[cycle(stmt)]
@@ -45,21 +45,17 @@ fn rule_line(src: &[u8], toks: &[u32], tree: &mut [u32], left: u32, s: State) ->
     requires begun { Begun src.now toks.now s Line }
     ensures { Rules src.now toks.now left Line a_growing s tree.old result tree.new }
 {
-    let at = s.at;
-    let opened = s.opened + 1;
     let up = State {
-        at: at,
-        nodes: s.nodes,
-        opened: opened,
-        used: s.used,
+        opened: s.opened + 1,
+        ..s
     };
     let on = leaves::past(up);
-    match lookahead::symbol_at(src, toks, at) {
+    match lookahead::symbol_at(src, toks, s.at) {
         token::CLASS => rule_class(src, toks, tree, left, up),
-        token::DEF => named(src, toks, tree, left, ast::DEF, at, on),
-        token::IF => cond(src, toks, tree, left, at, on),
-        token::WHILE => again(src, toks, tree, left, at, on),
-        token::FOR => each(src, toks, tree, left, at, on),
+        token::DEF => named(src, toks, tree, left, ast::DEF, s.at, on),
+        token::IF => cond(src, toks, tree, left, s.at, on),
+        token::WHILE => again(src, toks, tree, left, s.at, on),
+        token::FOR => each(src, toks, tree, left, s.at, on),
         _ => simple::simples(src, toks, tree, left, up),
     }
 }
@@ -72,31 +68,19 @@ fn rule_block(src: &[u8], toks: &[u32], tree: &mut [u32], left: u32, s: State) -
     ensures { Rules src.now toks.now left Block a_list s tree.old result tree.new }
 {
     if left == 0 {
-        Parsed::Refused(13, s)
+        return Err(Refused(Reason::TooDeep, s));
+    }
+    let room = left - 1;
+    let on = State {
+        at: TokenNumber(s.at.0 + 1),
+        opened: s.opened + 1,
+        ..s
+    };
+    if lookahead::is_symbol(lookahead::symbol_at(src, toks, on.at), token::NEWLINE) {
+        let at = lookahead::skip_newlines(src, toks, TokenNumber(on.at.0 + 1));
+        indented(src, toks, tree, room, State { at, ..on })
     } else {
-        let room = left - 1;
-        let opened = s.opened + 1;
-        let t = s.at.0 + 1;
-        let next = TokenNumber(t);
-        let on = State {
-            at: next,
-            nodes: s.nodes,
-            opened: opened,
-            used: s.used,
-        };
-        if lookahead::is_symbol(lookahead::symbol_at(src, toks, next), token::NEWLINE) {
-            let u = t + 1;
-            let line = lookahead::skip_newlines(src, toks, TokenNumber(u));
-            let below = State {
-                at: line,
-                nodes: s.nodes,
-                opened: opened,
-                used: s.used,
-            };
-            indented(src, toks, tree, room, below)
-        } else {
-            simple::simples(src, toks, tree, room, on)
-        }
+        simple::simples(src, toks, tree, room, on)
     }
 }
 
@@ -106,11 +90,10 @@ fn block(src: &[u8], toks: &[u32], tree: &mut [u32], left: u32, s: State) -> Par
     requires { Ready src.now toks.now tree.old s 9 }
     ensures { Parts src.now toks.now left (call Block) [] a_list s tree.old result tree.new }
 {
-    let at = s.at;
-    if lookahead::is_symbol(lookahead::symbol_at(src, toks, at), token::COLON) {
+    if lookahead::is_symbol(lookahead::symbol_at(src, toks, s.at), token::COLON) {
         rule_block(src, toks, tree, left, s)
     } else {
-        Parsed::Refused(14, s)
+        Err(Refused(Reason::Misfit, s))
     }
 }
 
@@ -120,16 +103,10 @@ fn indented(src: &[u8], toks: &[u32], tree: &mut [u32], left: u32, s: State) -> 
     requires { Ready src.now toks.now tree.old s 1 }
     ensures { Parts src.now toks.now left indented_on [] a_list s tree.old result tree.new }
 {
-    let at = s.at;
-    if lookahead::is_symbol(lookahead::symbol_at(src, toks, at), token::INDENT) {
-        let body = inside(src, toks, tree, left, leaves::past(s));
-        match body {
-            Parsed::Node(n, after) => dedent(src, toks, n, after),
-            Parsed::Refused(code, after) => Parsed::Refused(code, after),
-        }
-    } else {
-        Parsed::Refused(14, s)
-    }
+    let on = take(src, toks, token::INDENT, s)?;
+    let Added(first, after) = inside(src, toks, tree, left, on)?;
+    let done = take(src, toks, token::DEDENT, after)?;
+    Ok(Added(first, done))
 }
 
 // Lines with Newlines before them, or nothing.
@@ -138,29 +115,11 @@ fn inside(src: &[u8], toks: &[u32], tree: &mut [u32], left: u32, s: State) -> Pa
     requires { Ready src.now toks.now tree.old s 1 }
     ensures { Parts src.now toks.now left inside_on [] a_list s tree.old result tree.new }
 {
-    let at = s.at;
-    if begins_lines(lookahead::symbol_at(src, toks, at)) {
-        let line = lookahead::skip_newlines(src, toks, at);
-        let on = State {
-            at: line,
-            nodes: s.nodes,
-            opened: s.opened,
-            used: s.used,
-        };
-        lines(src, toks, tree, left, on)
+    if begins_lines(lookahead::symbol_at(src, toks, s.at)) {
+        let at = lookahead::skip_newlines(src, toks, s.at);
+        lines(src, toks, tree, left, State { at, ..s })
     } else {
-        Parsed::Node(NodeNumber(ast::NONE_NODE), s)
-    }
-}
-
-// Whether the symbol can begin Lines, or a Newline before them.
-fn begins_lines(symbol: u32) -> bool
-    ensures { result ≡ mem symbol (Newline ∷ first_line) }
-{
-    if lookahead::is_symbol(symbol, token::NEWLINE) {
-        true
-    } else {
-        lookahead::begins_line(symbol)
+        Ok(Added(NodeNumber(ast::NONE_NODE), s))
     }
 }
 
@@ -170,50 +129,22 @@ fn lines(src: &[u8], toks: &[u32], tree: &mut [u32], left: u32, s: State) -> Par
     requires { Ready src.now toks.now tree.old s 1 }
     ensures { Parts src.now toks.now left lines_on [] a_list s tree.old result tree.new }
 {
-    let at = s.at;
-    if lookahead::begins_line(lookahead::symbol_at(src, toks, at)) {
-        let mut gathered = Gathered::Nothing;
-        let mut st = s;
-        loop {
-            let inner = rule_line(src, toks, tree, left, st);
-            match inner {
-                Parsed::Node(n, after) => {
-                    let k = after.nodes - 1;
-                    let from = after.at;
-                    let line = lookahead::skip_newlines(src, toks, from);
-                    let on = State {
-                        at: line,
-                        nodes: after.nodes,
-                        opened: after.opened,
-                        used: after.used,
-                    };
-                    let first = simple::append(tree, gathered, n, on);
-                    if lookahead::begins_line(lookahead::symbol_at(src, toks, line)) {
-                        gathered = Gathered::List(first, NodeNumber(k));
-                        st = on;
-                    } else {
-                        return Parsed::Node(first, on);
-                    }
-                }
-                Parsed::Refused(code, after) => return Parsed::Refused(code, after),
-            }
-        }
-    } else {
-        Parsed::Refused(14, s)
+    if !lookahead::begins_line(lookahead::symbol_at(src, toks, s.at)) {
+        return Err(Refused(Reason::Misfit, s));
     }
-}
-
-// The Dedent behind a list.
-fn dedent(src: &[u8], toks: &[u32], first: NodeNumber, s: State) -> Parsed
-    requires tokens { Tokens src.now toks.now }
-    requires at_bound { (s.at.0 ≤ eof_at toks.now) × (s.used ≡ text_before src.now toks.now s.at.0) }
-    ensures { (room : ℕ) (tr : List ℕ) → Parts src.now toks.now room (tk Dedent) (list first.0 ∷ []) a_list s tr result tr }
-{
-    let at = s.at;
-    if lookahead::is_symbol(lookahead::symbol_at(src, toks, at), token::DEDENT) {
-        Parsed::Node(first, leaves::past(s))
-    } else {
-        Parsed::Refused(14, s)
+    let mut gathered = None;
+    let mut st = s;
+    loop {
+        let Added(n, after) = rule_line(src, toks, tree, left, st)?;
+        let last = NodeNumber(after.nodes - 1);
+        let at = lookahead::skip_newlines(src, toks, after.at);
+        let on = State { at, ..after };
+        let first = simple::append(tree, gathered, n, on);
+        if !lookahead::begins_line(lookahead::symbol_at(src, toks, at)) {
+            return Ok(Added(first, on));
+        }
+        gathered = Some(Gathered { first, last });
+        st = on;
     }
 }
 
@@ -225,59 +156,16 @@ fn rule_class(src: &[u8], toks: &[u32], tree: &mut [u32], left: u32, s: State) -
     ensures rules { Rules src.now toks.now left Class a_node s tree.old result tree.new }
     ensures newest { Newest result }
 {
-    let keyword = s.at;
-    let opened = s.opened + 1;
-    let t = keyword.0 + 1;
-    let name = TokenNumber(t);
-    let on = State {
-        at: name,
-        nodes: s.nodes,
-        opened: opened,
-        used: s.used,
+    let up = State {
+        at: TokenNumber(s.at.0 + 1),
+        opened: s.opened + 1,
+        ..s
     };
-    if lookahead::is_name(lookahead::symbol_at(src, toks, name)) {
-        suite(src, toks, tree, left, keyword, name, leaves::past(on))
-    } else {
-        Parsed::Refused(14, on)
-    }
-}
-
-// After a Class's name: colon, one or more Newlines.
-#[cycle(stmt)]
-fn suite(
-    src: &[u8],
-    toks: &[u32],
-    tree: &mut [u32],
-    left: u32,
-    keyword: TokenNumber,
-    name: TokenNumber,
-    s: State,
-) -> Parsed
-    requires ready { Ready src.now toks.now tree.old s 1 }
-    requires keyword_lt_at { (keyword.0 < s.at.0) × (name.0 < s.at.0) }
-    ensures parts { Parts src.now toks.now left class_on (token name.0 ∷ token keyword.0 ∷ []) a_node s tree.old result tree.new }
-    ensures newest { Newest result }
-{
-    let at = s.at;
-    if lookahead::is_symbol(lookahead::symbol_at(src, toks, at), token::COLON) {
-        let on = leaves::past(s);
-        let next = on.at;
-        if lookahead::is_symbol(lookahead::symbol_at(src, toks, next), token::NEWLINE) {
-            let u = next.0 + 1;
-            let line = lookahead::skip_newlines(src, toks, TokenNumber(u));
-            let below = State {
-                at: line,
-                nodes: s.nodes,
-                opened: s.opened,
-                used: s.used,
-            };
-            class_body(src, toks, tree, left, keyword, name, below)
-        } else {
-            Parsed::Refused(14, on)
-        }
-    } else {
-        Parsed::Refused(14, s)
-    }
+    let named = take_name(src, toks, up)?;
+    let colon = take(src, toks, token::COLON, named)?;
+    let on = take(src, toks, token::NEWLINE, colon)?;
+    let at = lookahead::skip_newlines(src, toks, on.at);
+    class_body(src, toks, tree, left, s.at, up.at, State { at, ..on })
 }
 
 // Indent, one or more Methods, Dedent.
@@ -296,49 +184,11 @@ fn class_body(
     ensures parts { Parts src.now toks.now left class_body_lem (token name.0 ∷ token keyword.0 ∷ []) a_node s tree.old result tree.new }
     ensures newest { Newest result }
 {
-    let at = s.at;
-    if lookahead::is_symbol(lookahead::symbol_at(src, toks, at), token::INDENT) {
-        let one = method(src, toks, tree, left, leaves::past(s));
-        match one {
-            Parsed::Node(n, after) => {
-                let rest = further(src, toks, tree, left, true, n, after);
-                match rest {
-                    Parsed::Node(m, done) => class_end(src, toks, tree, keyword, name, m, done),
-                    Parsed::Refused(code, done) => Parsed::Refused(code, done),
-                }
-            }
-            Parsed::Refused(code, after) => Parsed::Refused(code, after),
-        }
-    } else {
-        Parsed::Refused(14, s)
-    }
-}
-
-// The Dedent of a Class with the Methods from `first` on.
-fn class_end(
-    src: &[u8],
-    toks: &[u32],
-    tree: &mut [u32],
-    keyword: TokenNumber,
-    name: TokenNumber,
-    first: NodeNumber,
-    s: State,
-) -> Parsed
-    requires ready { Ready src.now toks.now tree.old s 1 }
-    requires keyword_lt_at { (keyword.0 < s.at.0) × (name.0 < s.at.0) }
-    ensures by_index { (room : ℕ) → Parts src.now toks.now room class_end_lem (list first.0 ∷ token name.0 ∷ token keyword.0 ∷ []) a_node s tree.old result tree.new }
-    ensures newest { Newest result }
-{
-    let shut = dedent(src, toks, first, s);
-    match shut {
-        Parsed::Node(n, after) => {
-            let made = stmt_leaves::put_class(toks, tree, keyword, name, n, after);
-            let m = made.0;
-            let done = made.1;
-            Parsed::Node(m, done)
-        }
-        Parsed::Refused(code, after) => Parsed::Refused(code, after),
-    }
+    let on = take(src, toks, token::INDENT, s)?;
+    let Added(n, after) = method(src, toks, tree, left, on)?;
+    let Added(first, behind) = further(src, toks, tree, left, true, n, after)?;
+    let done = take(src, toks, token::DEDENT, behind)?;
+    Ok(stmt_leaves::put_class(toks, tree, keyword, name, first, done))
 }
 
 // A Method.
@@ -347,15 +197,11 @@ fn method(src: &[u8], toks: &[u32], tree: &mut [u32], left: u32, s: State) -> Pa
     requires { Ready src.now toks.now tree.old s 1 }
     ensures { Parts src.now toks.now left (rules.definition kind.Method) [] a_node s tree.old result tree.new }
 {
-    let at = s.at;
-    if lookahead::is_symbol(lookahead::symbol_at(src, toks, at), token::DEF) {
-        named(src, toks, tree, left, ast::METHOD, at, leaves::past(s))
-    } else {
-        Parsed::Refused(14, s)
-    }
+    let on = take(src, toks, token::DEF, s)?;
+    named(src, toks, tree, left, ast::METHOD, s.at, on)
 }
 
-// A Def or Method after its keyword: name, parenthesis, names.
+// A Def or Method after its keyword: name, names in parentheses, Block.
 #[cycle(stmt)]
 fn named(
     src: &[u8],
@@ -371,74 +217,29 @@ fn named(
     ensures parts { Parts src.now toks.now left (named_on kind) (token keyword.0 ∷ []) a_node s tree.old result tree.new }
     ensures newest { Newest result }
 {
-    let name = s.at;
-    if lookahead::is_name(lookahead::symbol_at(src, toks, name)) {
-        let on = leaves::past(s);
-        let next = on.at;
-        if lookahead::is_symbol(lookahead::symbol_at(src, toks, next), token::LPAREN) {
-            given(src, toks, tree, left, kind, keyword, name, leaves::past(on))
-        } else {
-            Parsed::Refused(14, on)
-        }
-    } else {
-        Parsed::Refused(14, s)
-    }
-}
-
-// After the opening parenthesis: names, closing parenthesis, Block.
-#[cycle(stmt)]
-fn given(
-    src: &[u8],
-    toks: &[u32],
-    tree: &mut [u32],
-    left: u32,
-    kind: u32,
-    keyword: TokenNumber,
-    name: TokenNumber,
-    s: State,
-) -> Parsed
-    requires ready { Ready src.now toks.now tree.old s 1 }
-    requires keyword_lt_at { (keyword.0 < s.at.0) × (name.0 < s.at.0) }
-    ensures parts { Parts src.now toks.now left (given_on kind) (token name.0 ∷ token keyword.0 ∷ []) a_node s tree.old result tree.new }
-    ensures newest { Newest result }
-{
-    let heads = expr::names(src, toks, tree, s);
-    let names = heads.0;
-    let after = heads.1;
-    let at = after.at;
-    if lookahead::is_symbol(lookahead::symbol_at(src, toks, at), token::RPAREN) {
-        let body = block(src, toks, tree, left, leaves::past(after));
-        match body {
-            Parsed::Node(n, done) => {
-                let made = stmt_leaves::put_def(toks, tree, kind, keyword, name, names, n, done);
-                let m = made.0;
-                let end = made.1;
-                Parsed::Node(m, end)
-            }
-            Parsed::Refused(code, done) => Parsed::Refused(code, done),
-        }
-    } else {
-        Parsed::Refused(14, after)
-    }
+    let named = take_name(src, toks, s)?;
+    let on = take(src, toks, token::LPAREN, named)?;
+    let Added(names, after) = expr::names(src, toks, tree, on);
+    let shut = take(src, toks, token::RPAREN, after)?;
+    let Added(first, done) = block(src, toks, tree, left, shut)?;
+    Ok(stmt_leaves::put_def(toks, tree, kind, keyword, s.at, names, first, done))
 }
 
 // E, and the Block behind it: what While, For, If and Elif have in common.
 #[cycle(stmt)]
-fn guarded(src: &[u8], toks: &[u32], tree: &mut [u32], left: u32, s: State) -> Clause
+fn guarded(
+    src: &[u8],
+    toks: &[u32],
+    tree: &mut [u32],
+    left: u32,
+    s: State,
+) -> Result<Clause, Refused>
     requires { Ready src.now toks.now tree.old s 1 }
     ensures { Guards src.now toks.now left s tree.old result tree.new }
 {
-    let test = expr::enter(src, toks, tree, left, s);
-    match test {
-        Parsed::Node(c, after) => {
-            let body = block(src, toks, tree, left, after);
-            match body {
-                Parsed::Node(n, done) => Clause::Both(c, n, done),
-                Parsed::Refused(code, done) => Clause::Refused(code, done),
-            }
-        }
-        Parsed::Refused(code, after) => Clause::Refused(code, after),
-    }
+    let Added(test, after) = expr::enter(src, toks, tree, left, s)?;
+    let Added(first, done) = block(src, toks, tree, left, after)?;
+    Ok(Clause(test, first, done))
 }
 
 // While after its keyword: E, Block.
@@ -456,19 +257,11 @@ fn again(
     ensures parts { Parts src.now toks.now left while_on (token keyword.0 ∷ []) a_node s tree.old result tree.new }
     ensures newest { Newest result }
 {
-    let head = guarded(src, toks, tree, left, s);
-    match head {
-        Clause::Both(c, n, done) => {
-            let made = stmt_leaves::put_while(toks, tree, keyword, c, n, done);
-            let m = made.0;
-            let end = made.1;
-            Parsed::Node(m, end)
-        }
-        Clause::Refused(code, done) => Parsed::Refused(code, done),
-    }
+    let Clause(test, first, done) = guarded(src, toks, tree, left, s)?;
+    Ok(stmt_leaves::put_while(toks, tree, keyword, test, first, done))
 }
 
-// For after its keyword: name, `in`.
+// For after its keyword: name, `in`, E, Block.
 #[cycle(stmt)]
 fn each(
     src: &[u8],
@@ -483,49 +276,13 @@ fn each(
     ensures parts { Parts src.now toks.now left for_on (token keyword.0 ∷ []) a_node s tree.old result tree.new }
     ensures newest { Newest result }
 {
-    let name = s.at;
-    if lookahead::is_name(lookahead::symbol_at(src, toks, name)) {
-        let on = leaves::past(s);
-        let next = on.at;
-        if lookahead::is_symbol(lookahead::symbol_at(src, toks, next), token::IN) {
-            range(src, toks, tree, left, keyword, name, leaves::past(on))
-        } else {
-            Parsed::Refused(14, on)
-        }
-    } else {
-        Parsed::Refused(14, s)
-    }
+    let named = take_name(src, toks, s)?;
+    let on = take(src, toks, token::IN, named)?;
+    let Clause(range, first, done) = guarded(src, toks, tree, left, on)?;
+    Ok(stmt_leaves::put_for(toks, tree, keyword, s.at, range, first, done))
 }
 
-// For after `in`: E, Block.
-#[cycle(stmt)]
-fn range(
-    src: &[u8],
-    toks: &[u32],
-    tree: &mut [u32],
-    left: u32,
-    keyword: TokenNumber,
-    name: TokenNumber,
-    s: State,
-) -> Parsed
-    requires ready { Ready src.now toks.now tree.old s 1 }
-    requires keyword_lt_at { (keyword.0 < s.at.0) × (name.0 < s.at.0) }
-    ensures parts { Parts src.now toks.now left range_on (token name.0 ∷ token keyword.0 ∷ []) a_node s tree.old result tree.new }
-    ensures newest { Newest result }
-{
-    let head = guarded(src, toks, tree, left, s);
-    match head {
-        Clause::Both(c, n, done) => {
-            let made = stmt_leaves::put_for(toks, tree, keyword, name, c, n, done);
-            let m = made.0;
-            let end = made.1;
-            Parsed::Node(m, end)
-        }
-        Clause::Refused(code, done) => Parsed::Refused(code, done),
-    }
-}
-
-// If after its keyword: E, Block, and what may follow at once.
+// If after its keyword: E, Block, and its Elifs and its Else, which follow at once.
 #[cycle(stmt)]
 fn cond(
     src: &[u8],
@@ -540,46 +297,10 @@ fn cond(
     ensures parts { Parts src.now toks.now left if_on (token keyword.0 ∷ []) a_node s tree.old result tree.new }
     ensures newest { Newest result }
 {
-    let head = guarded(src, toks, tree, left, s);
-    match head {
-        Clause::Both(c, n, done) => branch(src, toks, tree, left, keyword, c, n, done),
-        Clause::Refused(code, done) => Parsed::Refused(code, done),
-    }
-}
-
-// After the first Block of an If: its Elifs and its Else.
-#[cycle(stmt)]
-fn branch(
-    src: &[u8],
-    toks: &[u32],
-    tree: &mut [u32],
-    left: u32,
-    keyword: TokenNumber,
-    test: NodeNumber,
-    then: NodeNumber,
-    s: State,
-) -> Parsed
-    requires ready { Ready src.now toks.now tree.old s 1 }
-    requires keyword_lt_at { keyword.0 < s.at.0 }
-    ensures parts { Parts src.now toks.now left branches (list then.0 ∷ node test.0 ∷ token keyword.0 ∷ []) a_node s tree.old result tree.new }
-    ensures newest { Newest result }
-{
-    let rest = elifs(src, toks, tree, left, s);
-    match rest {
-        Parsed::Node(e, after) => {
-            let last = other(src, toks, tree, left, after);
-            match last {
-                Parsed::Node(o, done) => {
-                    let made = stmt_leaves::put_if(toks, tree, keyword, test, then, e, o, done);
-                    let m = made.0;
-                    let end = made.1;
-                    Parsed::Node(m, end)
-                }
-                Parsed::Refused(code, done) => Parsed::Refused(code, done),
-            }
-        }
-        Parsed::Refused(code, after) => Parsed::Refused(code, after),
-    }
+    let Clause(test, first, after) = guarded(src, toks, tree, left, s)?;
+    let Added(more, behind) = elifs(src, toks, tree, left, after)?;
+    let Added(last, done) = other(src, toks, tree, left, behind)?;
+    Ok(stmt_leaves::put_if(toks, tree, keyword, test, first, more, last, done))
 }
 
 // Elifs, or none.
@@ -588,15 +309,11 @@ fn elifs(src: &[u8], toks: &[u32], tree: &mut [u32], left: u32, s: State) -> Par
     requires { Ready src.now toks.now tree.old s 1 }
     ensures { Parts src.now toks.now left elifs_on [] a_list s tree.old result tree.new }
 {
-    let at = s.at;
-    if lookahead::is_symbol(lookahead::symbol_at(src, toks, at), token::ELIF) {
-        let one = elif(src, toks, tree, left, s);
-        match one {
-            Parsed::Node(n, after) => further(src, toks, tree, left, false, n, after),
-            Parsed::Refused(code, after) => Parsed::Refused(code, after),
-        }
+    if lookahead::is_symbol(lookahead::symbol_at(src, toks, s.at), token::ELIF) {
+        let Added(n, after) = elif(src, toks, tree, left, s)?;
+        further(src, toks, tree, left, false, n, after)
     } else {
-        Parsed::Node(NodeNumber(ast::NONE_NODE), s)
+        Ok(Added(NodeNumber(ast::NONE_NODE), s))
     }
 }
 
@@ -617,33 +334,13 @@ fn further(
 {
     let mut last = first;
     let mut st = s;
-    loop {
-        let at = st.at;
-        if leads(lookahead::symbol_at(src, toks, at), methods) {
-            let next = member(src, toks, tree, left, methods, st);
-            match next {
-                Parsed::Node(n, after) => {
-                    leaves::link(tree, last, n, after);
-                    last = n;
-                    st = after;
-                }
-                Parsed::Refused(code, after) => return Parsed::Refused(code, after),
-            }
-        } else {
-            return Parsed::Node(first, st);
-        }
+    while leads(lookahead::symbol_at(src, toks, st.at), methods) {
+        let Added(n, after) = member(src, toks, tree, left, methods, st)?;
+        leaves::link(tree, last, n, after);
+        last = n;
+        st = after;
     }
-}
-
-// Whether the symbol is the keyword of a Method, or of an Elif.
-fn leads(symbol: u32, methods: bool) -> bool
-    ensures { result ≡ mem symbol (leading methods ∷ []) }
-{
-    if methods {
-        lookahead::is_symbol(symbol, token::DEF)
-    } else {
-        lookahead::is_symbol(symbol, token::ELIF)
-    }
+    Ok(Added(first, st))
 }
 
 // A Method, or an Elif, at its keyword.
@@ -667,17 +364,8 @@ fn elif(src: &[u8], toks: &[u32], tree: &mut [u32], left: u32, s: State) -> Pars
     requires at_value { mem (symbol_at src.now toks.now s.at.0) (Elif ∷ []) ≡ true }
     ensures { Parts src.now toks.now left elif_on [] a_node s tree.old result tree.new }
 {
-    let keyword = s.at;
-    let head = guarded(src, toks, tree, left, leaves::past(s));
-    match head {
-        Clause::Both(c, n, done) => {
-            let made = stmt_leaves::put_elif(toks, tree, keyword, c, n, done);
-            let m = made.0;
-            let end = made.1;
-            Parsed::Node(m, end)
-        }
-        Clause::Refused(code, done) => Parsed::Refused(code, done),
-    }
+    let Clause(test, first, done) = guarded(src, toks, tree, left, leaves::past(s))?;
+    Ok(stmt_leaves::put_elif(toks, tree, s.at, test, first, done))
 }
 
 // An Else as a list of one, or none.
@@ -686,19 +374,10 @@ fn other(src: &[u8], toks: &[u32], tree: &mut [u32], left: u32, s: State) -> Par
     requires { Ready src.now toks.now tree.old s 1 }
     ensures { Parts src.now toks.now left else_on [] a_list s tree.old result tree.new }
 {
-    let keyword = s.at;
-    if lookahead::is_symbol(lookahead::symbol_at(src, toks, keyword), token::ELSE) {
-        let body = block(src, toks, tree, left, leaves::past(s));
-        match body {
-            Parsed::Node(n, done) => {
-                let made = stmt_leaves::put_else(toks, tree, keyword, n, done);
-                let m = made.0;
-                let end = made.1;
-                Parsed::Node(m, end)
-            }
-            Parsed::Refused(code, done) => Parsed::Refused(code, done),
-        }
+    if lookahead::is_symbol(lookahead::symbol_at(src, toks, s.at), token::ELSE) {
+        let Added(first, done) = block(src, toks, tree, left, leaves::past(s))?;
+        Ok(stmt_leaves::put_else(toks, tree, s.at, first, done))
     } else {
-        Parsed::Node(NodeNumber(ast::NONE_NODE), s)
+        Ok(Added(NodeNumber(ast::NONE_NODE), s))
     }
 }

@@ -8,7 +8,8 @@ ghost use Rattle.leaves.specs.Contract.{a_node, Rules, Parts, Ready};
 ghost use Rattle.stmt.specs.Parts.{start, program_end};
 
 use crate::{DEPTH, lines};
-use leaves::{Parsed, State};
+use leaves::{Added, Parsed, Refused, State};
+use source::Reason;
 use token::{NodeNumber, TokenNumber};
 
 // Program: Newlines (none or more), Lines each with Newlines around, end.
@@ -16,21 +17,15 @@ fn rule_program(src: &[u8], toks: &[u32], tree: &mut [u32], left: u32, s: State)
     requires { Ready src.now toks.now tree.old s 0 }
     ensures { Rules src.now toks.now left Program a_node s tree.old result tree.new }
 {
-    let opened = s.opened + 1;
-    let at = s.at;
-    let line = lookahead::skip_newlines(src, toks, at);
+    let at = lookahead::skip_newlines(src, toks, s.at);
     let on = State {
-        at: line,
-        nodes: s.nodes,
-        opened: opened,
-        used: s.used,
+        at,
+        opened: s.opened + 1,
+        ..s
     };
-    if lookahead::begins_line(lookahead::symbol_at(src, toks, line)) {
-        let body = lines(src, toks, tree, left, on);
-        match body {
-            Parsed::Node(n, after) => end(src, toks, tree, n, after),
-            Parsed::Refused(code, after) => Parsed::Refused(code, after),
-        }
+    if lookahead::begins_line(lookahead::symbol_at(src, toks, at)) {
+        let Added(first, after) = lines(src, toks, tree, left, on)?;
+        end(src, toks, tree, first, after)
     } else {
         end(src, toks, tree, NodeNumber(ast::NONE_NODE), on)
     }
@@ -41,14 +36,10 @@ fn end(src: &[u8], toks: &[u32], tree: &mut [u32], first: NodeNumber, s: State) 
     requires { Ready src.now toks.now tree.old s 1 }
     ensures { (room : ℕ) → Parts src.now toks.now room program_end (list first.0 ∷ []) a_node s tree.old result tree.new }
 {
-    let at = s.at;
-    if lookahead::is_symbol(lookahead::symbol_at(src, toks, at), token::EOF) {
-        let made = stmt_leaves::put_program(src, tree, first, s);
-        let m = made.0;
-        let done = made.1;
-        Parsed::Node(m, done)
+    if lookahead::is_symbol(lookahead::symbol_at(src, toks, s.at), token::EOF) {
+        Ok(stmt_leaves::put_program(src, tree, first, s))
     } else {
-        Parsed::Refused(14, s)
+        Err(Refused(Reason::Misfit, s))
     }
 }
 

@@ -7,6 +7,7 @@ ghost use Rattle.leaves.specs.Contract.{Spot, Writes};
 ghost use Rattle.leaves.specs.Put.{Put};
 ghost use Rattle.lookahead.specs.Tokens.{start_at, end_at};
 
+use ast::Content;
 use leaves::{Added, State, add, put_opened};
 use lookahead::{end_at, start_at};
 use token::{NodeNumber, Place, TokenNumber};
@@ -26,17 +27,14 @@ pub fn put_if(
     requires keyword_lt_at { keyword.0 < s.at.0 }
     ensures { (src : List ℕ) → Writes src toks.now branch (list otherwise.0 ∷ list elifs.0 ∷ list then.0 ∷ node condition.0 ∷ token keyword.0 ∷ []) s tree.old result tree.new }
 {
-    put_opened(
-        toks,
-        tree,
-        ast::IF,
-        keyword,
-        condition.0,
-        then.0,
-        elifs.0,
-        otherwise.0,
-        s,
-    )
+    let content = Content {
+        kind: ast::IF,
+        p: condition.0,
+        q: then.0,
+        r: elifs.0,
+        s: otherwise.0,
+    };
+    put_opened(toks, tree, keyword, content, s)
 }
 
 // An Elif.
@@ -52,7 +50,8 @@ pub fn put_elif(
     requires keyword_lt_at { keyword.0 < s.at.0 }
     ensures { (src : List ℕ) → Writes src toks.now elif (list body.0 ∷ node condition.0 ∷ token keyword.0 ∷ []) s tree.old result tree.new }
 {
-    put_opened(toks, tree, ast::ELIF, keyword, condition.0, body.0, 0, 0, s)
+    let content = Content::of(ast::ELIF, condition.0, body.0);
+    put_opened(toks, tree, keyword, content, s)
 }
 
 // An Else.
@@ -67,7 +66,7 @@ pub fn put_else(
     requires keyword_lt_at { keyword.0 < s.at.0 }
     ensures { (src : List ℕ) → Writes src toks.now else (list body.0 ∷ token keyword.0 ∷ []) s tree.old result tree.new }
 {
-    put_opened(toks, tree, ast::ELSE, keyword, body.0, 0, 0, 0, s)
+    put_opened(toks, tree, keyword, Content::of(ast::ELSE, body.0, 0), s)
 }
 
 // A While.
@@ -83,17 +82,8 @@ pub fn put_while(
     requires keyword_lt_at { keyword.0 < s.at.0 }
     ensures { (src : List ℕ) → Writes src toks.now while (list body.0 ∷ node condition.0 ∷ token keyword.0 ∷ []) s tree.old result tree.new }
 {
-    put_opened(
-        toks,
-        tree,
-        ast::WHILE,
-        keyword,
-        condition.0,
-        body.0,
-        0,
-        0,
-        s,
-    )
+    let content = Content::of(ast::WHILE, condition.0, body.0);
+    put_opened(toks, tree, keyword, content, s)
 }
 
 // A node from its keyword on, whose first fields are a name: "Names are start and end in the source" (01, Tree).
@@ -111,9 +101,14 @@ fn put_called(
     requires keyword_lt_at { (keyword.0 < s.at.0) × (name.0 < s.at.0) }
     ensures { Put s tree.old (made kind (start_at toks.now keyword.0) (end_at toks.now (s.at.0 - 1)) (start_at toks.now name.0) (end_at toks.now name.0) r f) result tree.new }
 {
-    let from = start_at(toks, name);
-    let to = end_at(toks, name);
-    put_opened(toks, tree, kind, keyword, from.0, to.0, r, f, s)
+    let content = Content {
+        kind,
+        p: start_at(toks, name).0,
+        q: end_at(toks, name).0,
+        r,
+        s: f,
+    };
+    put_opened(toks, tree, keyword, content, s)
 }
 
 // A For, with the token of its name.
@@ -173,18 +168,8 @@ pub fn put_program(src: &[u8], tree: &mut [u32], lines: NodeNumber, s: State) ->
     requires nodes_in_bounds { (8 * s.nodes + 16 ≤ length tree.old) × (s.nodes < 2 ^ 32 - 1) }
     ensures { (toks : List ℕ) → Writes src.now toks program (list lines.0 ∷ []) s tree.old result tree.new }
 {
-    let n = src.len() as u32;
-    let k = s.nodes;
-    ast::put_node(
-        tree,
-        NodeNumber(k),
-        ast::PROGRAM,
-        Place(0),
-        Place(n),
-        lines.0,
-        0,
-        0,
-        0,
-    );
+    let end = Place(src.len() as u32);
+    let content = Content::of(ast::PROGRAM, lines.0, 0);
+    ast::put_node(tree, NodeNumber(s.nodes), Place(0), end, content);
     add(s)
 }

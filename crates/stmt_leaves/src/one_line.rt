@@ -4,6 +4,7 @@ ghost use Rattle.pyhyeon.specs.Machine.{token, node};
 ghost use Rattle.pyhyeon.specs.Action.{alone, expr, assign, return};
 ghost use Rattle.leaves.specs.Contract.{Spot, Writes};
 
+use ast::Content;
 use leaves::{Added, State, put_begun, put_opened};
 use lookahead::end_at;
 use token::{NodeNumber, TokenNumber};
@@ -13,8 +14,8 @@ pub fn put_alone(toks: &[u32], tree: &mut [u32], kind: u32, s: State) -> Added
     requires { Spot toks.now tree.old s }
     ensures { (src : List ℕ) → Writes src toks.now (alone kind) [] s tree.old result tree.new }
 {
-    let t = s.at.0 - 1;
-    put_opened(toks, tree, kind, TokenNumber(t), 0, 0, 0, 0, s)
+    let word = TokenNumber(s.at.0 - 1);
+    put_opened(toks, tree, word, Content::of(kind, 0, 0), s)
 }
 
 // The Expr of a node.
@@ -23,7 +24,7 @@ pub fn put_expr(toks: &[u32], tree: &mut [u32], n: NodeNumber, s: State) -> Adde
     requires n_lt_nodes { n.0 < s.nodes }
     ensures { (src : List ℕ) → Writes src toks.now expr (node n.0 ∷ []) s tree.old result tree.new }
 {
-    put_begun(toks, tree, ast::EXPR, n, n.0, 0, 0, s)
+    put_begun(toks, tree, n, Content::of(ast::EXPR, n.0, 0), s)
 }
 
 // The Return of a node.
@@ -38,7 +39,7 @@ pub fn put_return(
     requires keyword_lt_at { keyword.0 < s.at.0 }
     ensures { (src : List ℕ) → Writes src toks.now return (node n.0 ∷ token keyword.0 ∷ []) s tree.old result tree.new }
 {
-    put_opened(toks, tree, ast::RETURN, keyword, n.0, 0, 0, 0, s)
+    put_opened(toks, tree, keyword, Content::of(ast::RETURN, n.0, 0), s)
 }
 
 // The Assign of a value to a target: "An Assign target takes the statement's span" (01, Grammar).
@@ -53,9 +54,9 @@ pub fn put_assign(
     requires target_lt_nodes { target.0 < s.nodes }
     ensures { (src : List ℕ) → Writes src toks.now assign (node value.0 ∷ node target.0 ∷ []) s tree.old result tree.new }
 {
-    let t = s.at.0 - 1;
     let from = ast::start_of(tree, target);
-    let to = end_at(toks, TokenNumber(t));
+    let to = end_at(toks, TokenNumber(s.at.0 - 1));
     ast::set_span(tree, target, from, to);
-    put_begun(toks, tree, ast::ASSIGN, target, target.0, value.0, 0, s)
+    let content = Content::of(ast::ASSIGN, target.0, value.0);
+    put_begun(toks, tree, target, content, s)
 }

@@ -1,17 +1,19 @@
-use Prim.Native.Nat.{ℕ, ◌+◌, ◌-◌}
+use Prim.Native.Nat.{ℕ, ◌+◌}
 use Rattle.expr.proofs.Low.{modest_list, low_member, modest_parameters, modest_valued, low_postfix, bounded_postfix, begins_member, bounded_member, bounded_primary}
 use Rattle.joint.proofs.Taken.{Taken, taken_tested, taken_wrote, ready_tested, taken_ready, next_tested}
-use Rattle.joint.proofs.Chain.{tok_not, part_then, part_stop, tok_then, list_end, called, not_called, flat_then, flat_stop, flat, list_parts, turn_on, turn_end, list_on, list_shut, open_plain, open_deep, open_room}
+use Rattle.joint.proofs.Chain.{handed_on, tok_not, part_then, part_stop, tok_then, list_end, called, not_called, flat_then, flat_stop, flat, list_parts, turn_on, turn_end, list_on, list_shut, open_plain, open_deep, open_room}
 use Rattle.joint.proofs.Bounds.{Went, after_list, Grown, after_node, after_part, after_start, after_rule, spares_f}
 use Rattle.lookahead.proofs.Tests.{learnt, of_neither, of_first, not_first, coded, without}
 use mathlib.Core.List.{[], ◌∷◌}
-use mathlib.Core.Path.{refl, ◌≡◌, sym, ◌∙◌}
+use mathlib.Core.Path.{ap, refl, ◌≡◌, sym, ◌∙◌}
 use borrow.Author.Rules.{rules}
 use native.Mathlib.Omega.{arith}
 use Rattle.expr.proofs.Read.{after_enter, after-e}
-use Rattle.joint.proofs.Loops.{ready_of, lists_done, begin, begin_list, lists_node, lists_stop}
+use Rattle.joint.proofs.Loops.{ready_of, lists_done, lists_node, lists_stop}
 use Rattle.joint.proofs.Ends.{act_wrote, one_then, done_then, act_literal, tok_mark, none_last, act_changed, changed_then, act_wrapped, signs_then, mark_at}
 use Rattle.joint.proofs.Choices.{or_first, or_last, starts, or_next, or_neither, absent, later}
+use Rattle.std.specs.Prelude.{Option, Ok}
+use Rattle.leaves.specs.declared.State.{State}
 use Rattle.lookahead.specs.Tokens.{symbol_at}
 use Rattle.grammar.specs.Descent.{null, begins}
 use mathlib.Core.Bool.{false, true}
@@ -22,80 +24,71 @@ use Rattle.grammar.specs.Sets.{mem}
 use Rattle.pyhyeon.specs.Symbol.{Tee}
 use Rattle.lookahead.proofs.Tokens.{before_eof}
 use Rattle.levels.proofs.Operands.{Operand, Turn, reading_starts, reading_stops, operand_read, operand_spot, operand_held, turn_here, turn_ends, turn_misses, turn_less, turn_goes, operand_next}
+use Rattle.levels.specs.declared.Level.TheVariants as level
 use Rattle.levels.proofs.Grouping.{grouping, goes}
 use Rattle.levels.proofs.Comparing.{comparing, goes as comparing_goes}
 use Rattle.joint.proofs.Passing.{signs_pass, run_text}
 use Rattle.token.specs.Code as code
-use Rattle.levels.specs.declared.Level.TheVariants as level
-use Rattle.expr.proofs.+expr.Goals.{args-In-Node, args-Then-is_symbol, braces-Else-is_symbol, braces-Then-begins_e, index-In-Node, index-Then-is_symbol, item-In-Node, item-Then-is_symbol, items-Then-begins_e, lambda-After-names-heads, lambda-Then-is_symbol, post-After-past-on, rest-After-past-on, rest-In-Node, rest-Then-begins_e, round-Then-begins_e, rule_a-After-join-made, rule_a-In-Node, rule_c-After-compare-made, rule_c-In-Node, rule_o-After-join-made, rule_o-In-Node, rule_p-After-join-made, rule_p-In-Node, rule_s-After-join-made, rule_s-In-Node}
+use Rattle.expr.proofs.+expr.Goals.{args-In_ok-first, args-Then-is_symbol, braces-Else-is_symbol, braces-Then-begins_e, index-In_ok-i, index-Then-is_symbol, item-In_ok-key, item-Then-is_symbol, items-Then-begins_e, lambda-After-names, lambda-Then-is_symbol, post-After-past-on, rest-After-past-on, rest-Else-not-begins_e, rest-In_ok-n, round-Then-begins_e, rule_a-After-join, rule_a-In_ok-n, rule_c-After-compare, rule_c-In_ok-n, rule_o-After-join, rule_o-In_ok-n, rule_p-After-join, rule_p-In_ok-n, rule_s-After-join, rule_s-In_ok-n}
 use Rattle.expr.proofs.+expr.Goals as goal
 
 -- what is known behind the list
-args-behind : (t : ℕ) (c : args-In-Node t) → Went c.args.src.now c.args.toks.now c.args.s c.in-Node.after
-args-behind t c = after_list _ _ c.requires.ready.tokens modest_list c.requires.ready.here c.items-inner.ensures c.in-Node.is
+args-behind : (t : ℕ) (c : args-In_ok-first t) → Went c.args.src.now c.args.toks.now c.args.s c.in_ok-first.field-0.1
+args-behind t c = after_list _ _ c.requires.ready.tokens modest_list c.requires.ready.here c.items.ensures c.in_ok-first.was
 
 -- where the parenthesis stands behind it
-args-paren : (t : ℕ) (c : args-Then-is_symbol t) (behind : Went c.args.src.now c.args.toks.now c.args.s c.in-Node.after) → Taken c.args.src.now c.args.toks.now (code.RParen ∷ []) c.in-Node.after
+args-paren : (t : ℕ) (c : args-Then-is_symbol t) (behind : Went c.args.src.now c.args.toks.now c.args.s c.in_ok-first.field-0.1) → Taken c.args.src.now c.args.toks.now (code.RParen ∷ []) c.in_ok-first.field-0.1
 args-paren t c behind = taken_tested (code.RParen ∷ []) refl refl c.requires.ready.tokens behind.here behind.used c.if-is_symbol.true c.is_symbol.ensures c.symbol_at.ensures
 
-pub args-symbol_at-requires : goal.args-symbol_at-requires
-args-symbol_at-requires t c = record { tokens = c.requires.ready.tokens; at_bound = (args-behind t (goal.at.args-symbol_at-requires t c).In-Node).here }
+pub args-symbol_at-requires-clause-at_bound : goal.args-symbol_at-requires-clause-at_bound
+args-symbol_at-requires-clause-at_bound t c = (args-behind t (goal.at.args-symbol_at-requires-clause-at_bound t c).In_ok-first).here
 
-pub args-past-requires : goal.args-past-requires
-args-past-requires t c =
-    let g = args-behind t (goal.at.args-past-requires t c).In-Node in
+pub args-past-on-requires : goal.args-past-on-requires
+args-past-on-requires t c =
+    let g = args-behind t (goal.at.args-past-on-requires t c).In_ok-first in
     omega arith
 
-pub args-put_apply-made-requires : goal.args-put_apply-made-requires
-args-put_apply-made-requires t c =
-    let g = args-behind t (goal.at.args-put_apply-made-requires t c).In-Node in
-    let m = args-paren t (goal.at.args-put_apply-made-requires t c).Then-is_symbol (args-behind t (goal.at.args-put_apply-made-requires t c).In-Node) in
-    record { spot = rw c.past.ensures (omega arith); n_lt_nodes = rw c.past.ensures (omega arith) }
+pub args-put_apply-requires : goal.args-put_apply-requires
+args-put_apply-requires t c =
+    let g = args-behind t (goal.at.args-put_apply-requires t c).In_ok-first in
+    let m = args-paren t (goal.at.args-put_apply-requires t c).Then-is_symbol (args-behind t (goal.at.args-put_apply-requires t c).In_ok-first) in
+    record { spot = rw c.past-on.ensures (omega arith); n_lt_nodes = rw c.past-on.ensures (omega arith) }
 
 pub args-returns-then-is_symbol : goal.args-returns-then-is_symbol
 args-returns-then-is_symbol t c =
-    let m = args-paren t (goal.at.args-returns-then-is_symbol t c).Then-is_symbol (args-behind t (goal.at.args-returns-then-is_symbol t c).In-Node) in
-    record { comes = λ vs. part_then c.items-inner.ensures c.in-Node.is (taken_wrote m (rw c.past.ensures at (c.put_apply-made.ensures c.args.src.now))) }
+    let m = args-paren t (goal.at.args-returns-then-is_symbol t c).Then-is_symbol (args-behind t (goal.at.args-returns-then-is_symbol t c).In_ok-first) in
+    record { comes = λ vs. part_then c.items.ensures c.in_ok-first.was (taken_wrote m (rw c.past-on.ensures at (c.put_apply.ensures c.args.src.now))) }
 
 pub args-returns-else-is_symbol : goal.args-returns-else-is_symbol
 args-returns-else-is_symbol t c =
-    let g = args-behind t (goal.at.args-returns-else-is_symbol t c).In-Node in
+    let g = args-behind t (goal.at.args-returns-else-is_symbol t c).In_ok-first in
     let e = learnt (code.RParen ∷ []) c.if-is_symbol.false c.is_symbol.ensures c.symbol_at.ensures in
-    record { comes = λ vs. part_then c.items-inner.ensures c.in-Node.is (tok_not g.here g.used e refl) }
+    record { comes = λ vs. part_then c.items.ensures c.in_ok-first.was (tok_not g.here g.used e refl) }
 
-pub args-returns-in-Refused : goal.args-returns-in-Refused
-args-returns-in-Refused t c = record { comes = λ vs. part_stop _ c.items-inner.ensures c.in-Refused.is }
+pub args-returns-in_err-first : goal.args-returns-in_err-first
+args-returns-in_err-first t c = rw (handed_on _ c.from_residual.ensures.1) (record { comes = λ vs. part_stop _ c.items.ensures c.in_err-first.was })
 
-pub body-enter-inner-requires : goal.body-enter-inner-requires
-body-enter-inner-requires t c =
+pub body-put_lambda-requires : goal.body-put_lambda-requires
+body-put_lambda-requires t c =
     let r = c.requires.ready in
-    (omega arith, ready_of r.tokens (omega arith))
-
-pub body-put_lambda-made-requires : goal.body-put_lambda-made-requires
-body-put_lambda-made-requires t c =
-    let r = c.requires.ready in
-    let g = after_enter r c.enter-inner.ensures c.in-Node.is in
+    let g = after_enter r c.enter.ensures c.in_ok-n.was in
     record { spot = omega arith; keyword_lt_at = omega arith }
 
-pub body-returns-in-Node : goal.body-returns-in-Node
-body-returns-in-Node t c =
+pub body-returns : goal.body-returns
+body-returns t c =
     let r = c.requires.ready in
-    let g = after_enter r c.enter-inner.ensures c.in-Node.is in
-    record { comes = λ vs. part_then c.enter-inner.ensures c.in-Node.is (act_wrote g.used (c.put_lambda-made.ensures _)) }
+    let g = after_enter r c.enter.ensures c.in_ok-n.was in
+    record { comes = λ vs. part_then c.enter.ensures c.in_ok-n.was (act_wrote g.used (c.put_lambda.ensures _)) }
 
-pub body-returns-in-Refused : goal.body-returns-in-Refused
-body-returns-in-Refused t c =
-    record { comes = λ vs. part_stop _ c.enter-inner.ensures c.in-Refused.is }
+pub body-returns-in_err-n : goal.body-returns-in_err-n
+body-returns-in_err-n t c =
+    rw (handed_on _ c.from_residual.ensures.1) (record { comes = λ vs. part_stop _ c.enter.ensures c.in_err-n.was })
 
 pub brace-pairs-requires : goal.brace-pairs-requires
 brace-pairs-requires t c =
     let r = c.requires.ready in
     let m = ready_tested (code.Colon ∷ []) refl refl r c.if-is_symbol.true c.is_symbol.ensures c.symbol_at.ensures in
     rw c.past.ensures (omega arith, (ready_of r.tokens (omega arith), (omega arith, c.requires.opener_lt_at.1)))
-
-pub brace-listed-requires : goal.brace-listed-requires
-brace-listed-requires t c =
-    (omega arith, (c.requires.ready, (c.requires.opener_lt_at.0, c.requires.opener_lt_at.1, refl, refl)))
 
 pub brace-returns-then-is_symbol : goal.brace-returns-then-is_symbol
 unfolding begins null
@@ -125,12 +118,12 @@ braces-begun : (t : ℕ) (c : braces-Then-begins_e t) → Begun c.args.src.now c
 unfolding first
 braces-begun t c = record { seen = learnt first_e c.if-begins_e.true c.begins_e.ensures c.symbol_at-symbol.ensures }
 
-pub braces-rule_e-inner-requires : goal.braces-rule_e-inner-requires
-braces-rule_e-inner-requires t c = (omega arith, (ready_of c.requires.ready.tokens (omega arith), braces-begun t (goal.at.braces-rule_e-inner-requires t c).Then-begins_e))
+pub braces-rule_e-requires : goal.braces-rule_e-requires
+braces-rule_e-requires t c = (omega arith, (ready_of c.requires.ready.tokens (omega arith), braces-begun t (goal.at.braces-rule_e-requires t c).Then-begins_e))
 
 pub braces-brace-requires : goal.braces-brace-requires
 braces-brace-requires t c =
-    let g = after-e c.requires.ready (braces-begun t (goal.at.braces-brace-requires t c).Then-begins_e) c.rule_e-inner.ensures c.in-Node.is in
+    let g = after-e c.requires.ready (braces-begun t (goal.at.braces-brace-requires t c).Then-begins_e) c.rule_e.ensures c.in_ok-n.was in
     (omega arith, (ready_of c.requires.ready.tokens (omega arith), (omega arith, g.node)))
 
 pub braces-returns-then-is_symbol : goal.braces-returns-then-is_symbol
@@ -138,21 +131,21 @@ unfolding begins null
 braces-returns-then-is_symbol t c =
     let r = c.requires.ready in
     let m = ready_tested (code.RBrace ∷ []) refl refl r c.if-is_symbol.true c.is_symbol.ensures c.symbol_at-symbol.ensures in
-    record { comes = λ vs. or_first r.here m.seen (taken_wrote m (rw c.past.ensures at (c.put_empty-made.ensures c.args.src.now))) }
+    record { comes = λ vs. or_first r.here m.seen (taken_wrote m (rw c.past-on.ensures at (c.put_empty.ensures c.args.src.now))) }
 
-pub braces-returns-in-Node : goal.braces-returns-in-Node
+pub braces-returns-in_ok-n : goal.braces-returns-in_ok-n
 unfolding first begins null
-braces-returns-in-Node t c =
+braces-returns-in_ok-n t c =
     let h = c.requires.ready.here in
-    let b = (braces-begun t (goal.at.braces-returns-in-Node t c).Then-begins_e).seen in
-    record { comes = λ vs. or_next h (braces-shut-not t (goal.at.braces-returns-in-Node t c).Else-is_symbol) (starts b) (part_then (called h b c.rule_e-inner.ensures) c.in-Node.is (c.brace.ensures.comes vs)) }
+    let b = (braces-begun t (goal.at.braces-returns-in_ok-n t c).Then-begins_e).seen in
+    record { comes = λ vs. or_next h (braces-shut-not t (goal.at.braces-returns-in_ok-n t c).Else-is_symbol) (starts b) (part_then (called h b c.rule_e.ensures) c.in_ok-n.was (c.brace.ensures.comes vs)) }
 
-pub braces-returns-in-Refused : goal.braces-returns-in-Refused
+pub braces-returns-in_err-n : goal.braces-returns-in_err-n
 unfolding first begins null
-braces-returns-in-Refused t c =
+braces-returns-in_err-n t c =
     let h = c.requires.ready.here in
-    let b = (braces-begun t (goal.at.braces-returns-in-Refused t c).Then-begins_e).seen in
-    record { comes = λ vs. or_next h (braces-shut-not t (goal.at.braces-returns-in-Refused t c).Else-is_symbol) (starts b) (part_stop _ (called h b c.rule_e-inner.ensures) c.in-Refused.is) }
+    let b = (braces-begun t (goal.at.braces-returns-in_err-n t c).Then-begins_e).seen in
+    rw (handed_on _ c.from_residual.ensures.1) (record { comes = λ vs. or_next h (braces-shut-not t (goal.at.braces-returns-in_err-n t c).Else-is_symbol) (starts b) (part_stop _ (called h b c.rule_e.ensures) c.in_err-n.was) })
 
 pub braces-returns-else-begins_e : goal.braces-returns-else-begins_e
 unfolding first begins null
@@ -183,61 +176,53 @@ pub head-shown-requires : goal.head-shown-requires
 head-shown-requires t c =
     let r = c.requires.ready in
     let m = taken_ready (code.LBracket ∷ []) refl refl r (rw (sym c.symbol_at.ensures ∙ c.in-38.is)) in
-    rw c.past.ensures (omega arith, (ready_of r.tokens (omega arith), (omega arith, refl, refl)))
+    rw c.past-on.ensures (omega arith, (ready_of r.tokens (omega arith), (omega arith, refl, refl)))
 
 pub head-tee-requires : goal.head-tee-requires
 head-tee-requires t c =
     let r = c.requires.ready in
     let m = taken_ready (Tee ∷ []) refl refl r (rw (sym c.symbol_at.ensures ∙ c.in-50.is)) in
-    rw c.past-in-50.ensures (omega arith, (ready_of r.tokens (omega arith), refl))
+    rw c.past-on.ensures (omega arith, (ready_of r.tokens (omega arith), refl))
 
 pub head-braces-requires : goal.head-braces-requires
 head-braces-requires t c =
     let r = c.requires.ready in
     let m = taken_ready (code.LBrace ∷ []) refl refl r (rw (sym c.symbol_at.ensures ∙ c.in-40.is)) in
-    rw c.past-in-40.ensures (omega arith, (ready_of r.tokens (omega arith), omega arith))
+    rw c.past-on.ensures (omega arith, (ready_of r.tokens (omega arith), omega arith))
 
 pub head-round-requires : goal.head-round-requires
 head-round-requires t c =
     let r = c.requires.ready in
     let m = taken_ready (code.LParen ∷ []) refl refl r (rw (sym c.symbol_at.ensures ∙ c.in-36.is)) in
-    rw c.past-in-36.ensures (omega arith, (ready_of r.tokens (omega arith), omega arith))
-
-pub head-put_literal-made-requires : goal.head-put_literal-made-requires
-unfolding first
-head-put_literal-made-requires t c =
-    let r = c.requires.ready in
-    let lt = before_eof first_f refl r.tokens r.here c.requires.begun.seen in
-    let d : c.args.s.at.0 + 1 - 1 ≡ c.args.s.at.0 = omega arith in
-    rw c.past-in_default.ensures (record { tokens = r.tokens; spot = omega arith; used_value = rw d r.used })
+    rw c.past-on.ensures (omega arith, (ready_of r.tokens (omega arith), omega arith))
 
 pub head-returns-in-38 : goal.head-returns-in-38
 unfolding first begins null
 head-returns-in-38 t c =
     let h = c.requires.ready.here in
     let q = sym c.symbol_at.ensures ∙ c.in-38.is in
-    record { comes = λ vs. or_next h (rw q) (starts (rw q)) (or_first h (rw q) (tok_mark h (rw q) (rw c.past.ensures at (c.shown.ensures.comes vs)))) }
+    record { comes = λ vs. or_next h (rw q) (starts (rw q)) (or_first h (rw q) (tok_mark h (rw q) (rw c.past-on.ensures at (c.shown.ensures.comes vs)))) }
 
 pub head-returns-in-50 : goal.head-returns-in-50
 unfolding first begins null
 head-returns-in-50 t c =
     let h = c.requires.ready.here in
     let q = sym c.symbol_at.ensures ∙ c.in-50.is in
-    record { comes = λ vs. or_next h (rw q) (starts (rw q)) (or_next h (rw q) (starts (rw q)) (or_first h (rw q) (tok_then h (rw q) (rw c.past-in-50.ensures at (c.tee.ensures.comes vs))))) }
+    record { comes = λ vs. or_next h (rw q) (starts (rw q)) (or_next h (rw q) (starts (rw q)) (or_first h (rw q) (tok_then h (rw q) (rw c.past-on.ensures at (c.tee.ensures.comes vs))))) }
 
 pub head-returns-in-40 : goal.head-returns-in-40
 unfolding first begins null
 head-returns-in-40 t c =
     let h = c.requires.ready.here in
     let q = sym c.symbol_at.ensures ∙ c.in-40.is in
-    record { comes = λ vs. or_next h (rw q) (starts (rw q)) (or_next h (rw q) (starts (rw q)) (or_next h (rw q) (starts (rw q)) (or_first h (rw q) (tok_mark h (rw q) (rw c.past-in-40.ensures at (c.braces.ensures.comes vs)))))) }
+    record { comes = λ vs. or_next h (rw q) (starts (rw q)) (or_next h (rw q) (starts (rw q)) (or_next h (rw q) (starts (rw q)) (or_first h (rw q) (tok_mark h (rw q) (rw c.past-on.ensures at (c.braces.ensures.comes vs)))))) }
 
 pub head-returns-in-36 : goal.head-returns-in-36
 unfolding first begins null
 head-returns-in-36 t c =
     let h = c.requires.ready.here in
     let q = sym c.symbol_at.ensures ∙ c.in-36.is in
-    record { comes = λ vs. or_next h (rw q) (starts (rw q)) (or_next h (rw q) (starts (rw q)) (or_next h (rw q) (starts (rw q)) (or_next h (rw q) (starts (rw q)) (or_first h (rw q) (tok_mark h (rw q) (rw c.past-in-36.ensures at (c.round.ensures.comes vs))))))) }
+    record { comes = λ vs. or_next h (rw q) (starts (rw q)) (or_next h (rw q) (starts (rw q)) (or_next h (rw q) (starts (rw q)) (or_next h (rw q) (starts (rw q)) (or_first h (rw q) (tok_mark h (rw q) (rw c.past-on.ensures at (c.round.ensures.comes vs))))))) }
 
 pub head-returns-in-21 : goal.head-returns-in-21
 unfolding first begins null
@@ -246,7 +231,7 @@ head-returns-in-21 t c =
     let h = r.here in
     let q = sym c.symbol_at.ensures ∙ c.in-21.is in
     let m = taken_ready (code.Identifier ∷ []) refl refl r (rw q) in
-    record { comes = λ vs. or_next h (rw q) (starts (rw q)) (or_next h (rw q) (starts (rw q)) (or_next h (rw q) (starts (rw q)) (or_next h (rw q) (starts (rw q)) (or_next h (rw q) (starts (rw q)) (taken_wrote m (rw c.past-in-21.ensures at (c.put_named-made.ensures c.args.src.now))))))) }
+    record { comes = λ vs. or_next h (rw q) (starts (rw q)) (or_next h (rw q) (starts (rw q)) (or_next h (rw q) (starts (rw q)) (or_next h (rw q) (starts (rw q)) (or_next h (rw q) (starts (rw q)) (taken_wrote m (rw c.past-on.ensures at (c.put_named.ensures c.args.src.now))))))) }
 
 pub head-returns-in_default : goal.head-returns-in_default
 unfolding first begins null
@@ -255,121 +240,112 @@ head-returns-in_default t c =
     let k = c.symbol_at.ensures in
     let n = not_first 38 (Tee ∷ code.LBrace ∷ code.LParen ∷ code.Identifier ∷ []) k (omega arith) ∙ not_first 50 (code.LBrace ∷ code.LParen ∷ code.Identifier ∷ []) k (omega arith) ∙ not_first 40 (code.LParen ∷ code.Identifier ∷ []) k (omega arith) ∙ not_first 36 (code.Identifier ∷ []) k (omega arith) ∙ not_first 21 [] k (omega arith) in
     let e = of_first literals (code.LBracket ∷ Tee ∷ code.LBrace ∷ code.LParen ∷ code.Identifier ∷ []) (symbol_at c.args.src.now c.args.toks.now c.args.s.at.0) n c.requires.begun.seen in
-    record { comes = λ vs. or_first h e (tok_then h e (act_literal (rw c.past-in_default.ensures at c.put_literal-made.ensures))) }
+    record { comes = λ vs. or_first h e (tok_then h e (act_literal (rw c.past-on.ensures at c.put_literal.ensures))) }
 
 -- what is known behind the E
-index-behind : (t : ℕ) (c : index-In-Node t) → Grown c.args.src.now c.args.toks.now 8 c.args.s c.in-Node.i c.in-Node.after
-index-behind t c = after_enter c.requires.ready c.enter-inner.ensures c.in-Node.is
+index-behind : (t : ℕ) (c : index-In_ok-i t) → Grown c.args.src.now c.args.toks.now 8 c.args.s c.in_ok-i.field-0.0 c.in_ok-i.field-0.1
+index-behind t c = after_enter c.requires.ready c.enter.ensures c.in_ok-i.was
 
 -- where the bracket stands behind it
-index-bracket : (t : ℕ) (c : index-Then-is_symbol t) (behind : Grown c.args.src.now c.args.toks.now 8 c.args.s c.in-Node.i c.in-Node.after) → Taken c.args.src.now c.args.toks.now (code.RBracket ∷ []) c.in-Node.after
+index-bracket : (t : ℕ) (c : index-Then-is_symbol t) (behind : Grown c.args.src.now c.args.toks.now 8 c.args.s c.in_ok-i.field-0.0 c.in_ok-i.field-0.1) → Taken c.args.src.now c.args.toks.now (code.RBracket ∷ []) c.in_ok-i.field-0.1
 index-bracket t c behind = taken_tested (code.RBracket ∷ []) refl refl c.requires.ready.tokens behind.here behind.used c.if-is_symbol.true c.is_symbol.ensures c.symbol_at.ensures
 
-pub index-enter-inner-requires : goal.index-enter-inner-requires
-index-enter-inner-requires t c =
-    let r = c.requires.ready in
-    (omega arith, ready_of r.tokens (omega arith))
+pub index-symbol_at-requires-clause-at_bound : goal.index-symbol_at-requires-clause-at_bound
+index-symbol_at-requires-clause-at_bound t c = (index-behind t (goal.at.index-symbol_at-requires-clause-at_bound t c).In_ok-i).here
 
-pub index-symbol_at-requires : goal.index-symbol_at-requires
-index-symbol_at-requires t c = record { tokens = c.requires.ready.tokens; at_bound = (index-behind t (goal.at.index-symbol_at-requires t c).In-Node).here }
-
-pub index-past-requires : goal.index-past-requires
-index-past-requires t c =
-    let g = index-behind t (goal.at.index-past-requires t c).In-Node in
+pub index-past-on-requires : goal.index-past-on-requires
+index-past-on-requires t c =
+    let g = index-behind t (goal.at.index-past-on-requires t c).In_ok-i in
     omega arith
 
-pub index-put_index-made-requires : goal.index-put_index-made-requires
-index-put_index-made-requires t c =
-    let g = index-behind t (goal.at.index-put_index-made-requires t c).In-Node in
-    let m = index-bracket t (goal.at.index-put_index-made-requires t c).Then-is_symbol (index-behind t (goal.at.index-put_index-made-requires t c).In-Node) in
-    record { spot = rw c.past.ensures (omega arith); n_lt_nodes = rw c.past.ensures (omega arith) }
+pub index-put_index-requires : goal.index-put_index-requires
+index-put_index-requires t c =
+    let g = index-behind t (goal.at.index-put_index-requires t c).In_ok-i in
+    let m = index-bracket t (goal.at.index-put_index-requires t c).Then-is_symbol (index-behind t (goal.at.index-put_index-requires t c).In_ok-i) in
+    record { spot = rw c.past-on.ensures (omega arith); n_lt_nodes = rw c.past-on.ensures (omega arith) }
 
 pub index-returns-then-is_symbol : goal.index-returns-then-is_symbol
 index-returns-then-is_symbol t c =
-    let m = index-bracket t (goal.at.index-returns-then-is_symbol t c).Then-is_symbol (index-behind t (goal.at.index-returns-then-is_symbol t c).In-Node) in
-    record { comes = λ vs. part_then c.enter-inner.ensures c.in-Node.is (taken_wrote m (rw c.past.ensures at (c.put_index-made.ensures c.args.src.now))) }
+    let m = index-bracket t (goal.at.index-returns-then-is_symbol t c).Then-is_symbol (index-behind t (goal.at.index-returns-then-is_symbol t c).In_ok-i) in
+    record { comes = λ vs. part_then c.enter.ensures c.in_ok-i.was (taken_wrote m (rw c.past-on.ensures at (c.put_index.ensures c.args.src.now))) }
 
 pub index-returns-else-is_symbol : goal.index-returns-else-is_symbol
 index-returns-else-is_symbol t c =
-    let g = index-behind t (goal.at.index-returns-else-is_symbol t c).In-Node in
+    let g = index-behind t (goal.at.index-returns-else-is_symbol t c).In_ok-i in
     let e = learnt (code.RBracket ∷ []) c.if-is_symbol.false c.is_symbol.ensures c.symbol_at.ensures in
-    record { comes = λ vs. part_then c.enter-inner.ensures c.in-Node.is (tok_not g.here g.used e refl) }
+    record { comes = λ vs. part_then c.enter.ensures c.in_ok-i.was (tok_not g.here g.used e refl) }
 
-pub index-returns-in-Refused : goal.index-returns-in-Refused
-index-returns-in-Refused t c = record { comes = λ vs. part_stop _ c.enter-inner.ensures c.in-Refused.is }
+pub index-returns-in_err-i : goal.index-returns-in_err-i
+index-returns-in_err-i t c = rw (handed_on _ c.from_residual.ensures.1) (record { comes = λ vs. part_stop _ c.enter.ensures c.in_err-i.was })
 
 -- what is known behind the E
-item-behind : (t : ℕ) (c : item-In-Node t) → Grown c.args.src.now c.args.toks.now 8 c.args.s c.in-Node.key c.in-Node.after
-item-behind t c = after-e c.requires.ready c.requires.begun c.rule_e-inner.ensures c.in-Node.is
+item-behind : (t : ℕ) (c : item-In_ok-key t) → Grown c.args.src.now c.args.toks.now 8 c.args.s c.in_ok-key.field-0.0 c.in_ok-key.field-0.1
+item-behind t c = after-e c.requires.ready c.requires.begun c.rule_e.ensures c.in_ok-key.was
 
 -- where a colon stands behind it
-item-colon : (t : ℕ) (c : item-Then-is_symbol t) (behind : Grown c.args.src.now c.args.toks.now 8 c.args.s c.in-Node.key c.in-Node.after) → Taken c.args.src.now c.args.toks.now (code.Colon ∷ []) c.in-Node.after
+item-colon : (t : ℕ) (c : item-Then-is_symbol t) (behind : Grown c.args.src.now c.args.toks.now 8 c.args.s c.in_ok-key.field-0.0 c.in_ok-key.field-0.1) → Taken c.args.src.now c.args.toks.now (code.Colon ∷ []) c.in_ok-key.field-0.1
 item-colon t c behind = taken_tested (code.Colon ∷ []) refl refl c.requires.ready.tokens behind.here behind.used c.if-is_symbol.true c.is_symbol.ensures c.symbol_at.ensures
 
-pub item-rule_e-inner-requires : goal.item-rule_e-inner-requires
-item-rule_e-inner-requires t c =
-    (omega arith, (ready_of c.requires.ready.tokens (omega arith), c.requires.begun))
-
-pub item-symbol_at-requires : goal.item-symbol_at-requires
-item-symbol_at-requires t c = record { tokens = c.requires.ready.tokens; at_bound = (item-behind t (goal.at.item-symbol_at-requires t c).In-Node).here }
+pub item-symbol_at-requires-clause-at_bound : goal.item-symbol_at-requires-clause-at_bound
+item-symbol_at-requires-clause-at_bound t c = (item-behind t (goal.at.item-symbol_at-requires-clause-at_bound t c).In_ok-key).here
 
 pub item-past-requires : goal.item-past-requires
 item-past-requires t c =
-    let g = item-behind t (goal.at.item-past-requires t c).In-Node in
+    let g = item-behind t (goal.at.item-past-requires t c).In_ok-key in
     omega arith
 
 pub item-value-requires : goal.item-value-requires
 item-value-requires t c =
     let r = c.requires.ready in
-    let g = item-behind t (goal.at.item-value-requires t c).In-Node in
-    let m = item-colon t (goal.at.item-value-requires t c).Then-is_symbol (item-behind t (goal.at.item-value-requires t c).In-Node) in
+    let g = item-behind t (goal.at.item-value-requires t c).In_ok-key in
+    let m = item-colon t (goal.at.item-value-requires t c).Then-is_symbol (item-behind t (goal.at.item-value-requires t c).In_ok-key) in
     rw c.past.ensures (omega arith, (ready_of r.tokens (omega arith), g.node))
 
 pub item-returns-then-is_symbol : goal.item-returns-then-is_symbol
 unfolding first
 item-returns-then-is_symbol t c =
     let r = c.requires.ready in
-    let m = item-colon t (goal.at.item-returns-then-is_symbol t c).Then-is_symbol (item-behind t (goal.at.item-returns-then-is_symbol t c).In-Node) in
-    record { comes = λ vs. part_then (called r.here c.requires.begun.seen c.rule_e-inner.ensures) c.in-Node.is (tok_then m.here m.seen (rw c.past.ensures at (c.value.ensures.comes vs))) }
+    let m = item-colon t (goal.at.item-returns-then-is_symbol t c).Then-is_symbol (item-behind t (goal.at.item-returns-then-is_symbol t c).In_ok-key) in
+    record { comes = λ vs. part_then (called r.here c.requires.begun.seen c.rule_e.ensures) c.in_ok-key.was (tok_then m.here m.seen (rw c.past.ensures at (c.value.ensures.comes vs))) }
 
 pub item-returns-else-is_symbol : goal.item-returns-else-is_symbol
 unfolding first
 item-returns-else-is_symbol t c =
     let r = c.requires.ready in
-    let g = item-behind t (goal.at.item-returns-else-is_symbol t c).In-Node in
+    let g = item-behind t (goal.at.item-returns-else-is_symbol t c).In_ok-key in
     let e = learnt (code.Colon ∷ []) c.if-is_symbol.false c.is_symbol.ensures c.symbol_at.ensures in
-    record { comes = λ vs. part_then (called r.here c.requires.begun.seen c.rule_e-inner.ensures) c.in-Node.is (tok_not g.here g.used e refl) }
+    record { comes = λ vs. part_then (called r.here c.requires.begun.seen c.rule_e.ensures) c.in_ok-key.was (tok_not g.here g.used e refl) }
 
-pub item-returns-in-Refused : goal.item-returns-in-Refused
-item-returns-in-Refused t c =
-    record { comes = λ vs. part_stop _ (called c.requires.ready.here c.requires.begun.seen c.rule_e-inner.ensures) c.in-Refused.is }
+pub item-returns-in_err-key : goal.item-returns-in_err-key
+item-returns-in_err-key t c =
+    rw (handed_on _ c.from_residual.ensures.1) (record { comes = λ vs. part_stop _ (called c.requires.ready.here c.requires.begun.seen c.rule_e.ensures) c.in_err-key.was })
 
 -- where an E begins
 items-begun : (t : ℕ) (c : items-Then-begins_e t) → Begun c.args.src.now c.args.toks.now c.args.s E
 unfolding first
 items-begun t c = record { seen = learnt first_e c.if-begins_e.true c.begins_e.ensures c.symbol_at.ensures }
 
-pub items-rule_e-inner-requires : goal.items-rule_e-inner-requires
-items-rule_e-inner-requires t c = (omega arith, (ready_of c.requires.tokens (omega arith), items-begun t (goal.at.items-rule_e-inner-requires t c).Then-begins_e))
+pub items-rule_e-requires : goal.items-rule_e-requires
+items-rule_e-requires t c = (omega arith, (ready_of c.requires.tokens (omega arith), items-begun t (goal.at.items-rule_e-requires t c).Then-begins_e))
 
 pub items-rest-requires : goal.items-rest-requires
 items-rest-requires t c =
-    let g = after-e c.requires (items-begun t (goal.at.items-rest-requires t c).Then-begins_e) c.rule_e-inner.ensures c.in-Node.is in
+    let g = after-e c.requires (items-begun t (goal.at.items-rest-requires t c).Then-begins_e) c.rule_e.ensures c.in_ok-n.was in
     (omega arith, (ready_of c.requires.tokens (omega arith), (g.node, g.node)))
 
-pub items-returns-in-Node : goal.items-returns-in-Node
+pub items-returns-in_ok-n : goal.items-returns-in_ok-n
 unfolding first begins null
-items-returns-in-Node t c =
+items-returns-in_ok-n t c =
     let h = c.requires.here in
-    let b = (items-begun t (goal.at.items-returns-in-Node t c).Then-begins_e).seen in
-    record { comes = λ vs. or_first h b (part_then (called h b c.rule_e-inner.ensures) c.in-Node.is (one_then (lists_done _ c.rest.ensures vs))) }
+    let b = (items-begun t (goal.at.items-returns-in_ok-n t c).Then-begins_e).seen in
+    record { comes = λ vs. or_first h b (part_then (called h b c.rule_e.ensures) c.in_ok-n.was (one_then (lists_done _ c.rest.ensures vs))) }
 
-pub items-returns-in-Refused : goal.items-returns-in-Refused
+pub items-returns-in_err-n : goal.items-returns-in_err-n
 unfolding first begins null
-items-returns-in-Refused t c =
+items-returns-in_err-n t c =
     let h = c.requires.here in
-    let b = (items-begun t (goal.at.items-returns-in-Refused t c).Then-begins_e).seen in
-    record { comes = λ vs. or_first h b (part_stop _ (called h b c.rule_e-inner.ensures) c.in-Refused.is) }
+    let b = (items-begun t (goal.at.items-returns-in_err-n t c).Then-begins_e).seen in
+    rw (handed_on _ c.from_residual.ensures.1) (record { comes = λ vs. or_first h b (part_stop _ (called h b c.rule_e.ensures) c.in_err-n.was) })
 
 pub items-returns-else-begins_e : goal.items-returns-else-begins_e
 unfolding first begins null
@@ -379,102 +355,81 @@ items-returns-else-begins_e t c =
     record { comes = λ vs. or_next r.here b (absent refl) (none_last r.used) }
 
 -- what is known behind the names
-lambda-behind : (t : ℕ) (c : lambda-After-names-heads t) → Went c.args.src.now c.args.toks.now c.args.s c.names-heads.result.1
-lambda-behind t c = after_list _ _ c.requires.ready.tokens modest_parameters c.requires.ready.here (c.names-heads.ensures 0) refl
+lambda-behind : (t : ℕ) (c : lambda-After-names t) → Went c.args.src.now c.args.toks.now c.args.s c.names.result.1
+lambda-behind t c = after_list _ _ c.requires.ready.tokens modest_parameters c.requires.ready.here (c.names.ensures 0) refl
 
 -- where the colon stands behind them
-lambda-colon : (t : ℕ) (c : lambda-Then-is_symbol t) (behind : Went c.args.src.now c.args.toks.now c.args.s c.names-heads.result.1) → Taken c.args.src.now c.args.toks.now (code.Colon ∷ []) c.names-heads.result.1
+lambda-colon : (t : ℕ) (c : lambda-Then-is_symbol t) (behind : Went c.args.src.now c.args.toks.now c.args.s c.names.result.1) → Taken c.args.src.now c.args.toks.now (code.Colon ∷ []) c.names.result.1
 lambda-colon t c behind = taken_tested (code.Colon ∷ []) refl refl c.requires.ready.tokens behind.here behind.used c.if-is_symbol.true c.is_symbol.ensures c.symbol_at.ensures
 
-pub lambda-symbol_at-requires : goal.lambda-symbol_at-requires
-lambda-symbol_at-requires t c = record { tokens = c.requires.ready.tokens; at_bound = (lambda-behind t (goal.at.lambda-symbol_at-requires t c).After-names-heads).here }
+pub lambda-symbol_at-requires-clause-at_bound : goal.lambda-symbol_at-requires-clause-at_bound
+lambda-symbol_at-requires-clause-at_bound t c = (lambda-behind t (goal.at.lambda-symbol_at-requires-clause-at_bound t c).After-names).here
 
 pub lambda-past-requires : goal.lambda-past-requires
 lambda-past-requires t c =
-    let g = lambda-behind t (goal.at.lambda-past-requires t c).After-names-heads in
+    let g = lambda-behind t (goal.at.lambda-past-requires t c).After-names in
     omega arith
 
 pub lambda-body-requires : goal.lambda-body-requires
 lambda-body-requires t c =
-    let g = lambda-behind t (goal.at.lambda-body-requires t c).After-names-heads in
-    let m = lambda-colon t (goal.at.lambda-body-requires t c).Then-is_symbol (lambda-behind t (goal.at.lambda-body-requires t c).After-names-heads) in
+    let g = lambda-behind t (goal.at.lambda-body-requires t c).After-names in
+    let m = lambda-colon t (goal.at.lambda-body-requires t c).Then-is_symbol (lambda-behind t (goal.at.lambda-body-requires t c).After-names) in
     rw c.past.ensures (omega arith, (ready_of c.requires.ready.tokens (omega arith), omega arith))
 
 pub lambda-returns-then-is_symbol : goal.lambda-returns-then-is_symbol
 lambda-returns-then-is_symbol t c =
-    let m = lambda-colon t (goal.at.lambda-returns-then-is_symbol t c).Then-is_symbol (lambda-behind t (goal.at.lambda-returns-then-is_symbol t c).After-names-heads) in
-    record { comes = λ vs. part_then (c.names-heads.ensures _) refl (tok_then m.here m.seen (rw c.past.ensures at (c.body.ensures.comes vs))) }
+    let m = lambda-colon t (goal.at.lambda-returns-then-is_symbol t c).Then-is_symbol (lambda-behind t (goal.at.lambda-returns-then-is_symbol t c).After-names) in
+    record { comes = λ vs. part_then (c.names.ensures _) refl (tok_then m.here m.seen (rw c.past.ensures at (c.body.ensures.comes vs))) }
 
 pub lambda-returns-else-is_symbol : goal.lambda-returns-else-is_symbol
 lambda-returns-else-is_symbol t c =
-    let g = lambda-behind t (goal.at.lambda-returns-else-is_symbol t c).After-names-heads in
+    let g = lambda-behind t (goal.at.lambda-returns-else-is_symbol t c).After-names in
     let e = learnt (code.Colon ∷ []) c.if-is_symbol.false c.is_symbol.ensures c.symbol_at.ensures in
-    record { comes = λ vs. part_then (c.names-heads.ensures _) refl (tok_not g.here g.used e refl) }
-
-pub listed-rest-inner-requires : goal.listed-rest-inner-requires
-listed-rest-inner-requires t c =
-    (omega arith, (c.requires.ready, (c.requires.opener_lt_at.1, c.requires.opener_lt_at.1)))
+    record { comes = λ vs. part_then (c.names.ensures _) refl (tok_not g.here g.used e refl) }
 
 pub listed-shut-requires : goal.listed-shut-requires
 listed-shut-requires t c =
-    let d = c.rest-inner.ensures.leads _ _ c.in-Node.is in
+    let d = c.rest.ensures.leads _ _ c.in_ok-head.was in
     record { ready = d.ready; opener_lt_at = (omega (arith, d.on), c.requires.opener_lt_at.2, c.requires.opener_lt_at.3) }
 
-pub listed-returns-in-Node : goal.listed-returns-in-Node
-listed-returns-in-Node t c =
-    let d = c.rest-inner.ensures.leads _ _ c.in-Node.is in
+pub listed-returns : goal.listed-returns
+listed-returns t c =
+    let d = c.rest.ensures.leads _ _ c.in_ok-head.was in
     record { comes = λ vs. d.same _ _ _ _ (done_then ((c.shut.ensures _).comes vs)) }
 
-pub listed-returns-in-Refused : goal.listed-returns-in-Refused
-listed-returns-in-Refused t c =
-    record { comes = λ vs. c.rest-inner.ensures.stops _ _ _ c.in-Refused.is _ _ _ }
-
-pub member-rule_e-requires : goal.member-rule_e-requires
-member-rule_e-requires t c =
-    let r = c.requires.ready in
-    (omega arith, (ready_of r.tokens (omega arith), c.requires.begun))
-
-pub member-returns-then-paired : goal.member-returns-then-paired
-member-returns-then-paired t c =
-    rw c.if-paired.true c.item.ensures
+pub listed-returns-in_err-head : goal.listed-returns-in_err-head
+listed-returns-in_err-head t c =
+    rw (handed_on _ c.from_residual.ensures.1) (record { comes = λ vs. c.rest.ensures.stops _ _ _ c.in_err-head.was _ _ _ })
 
 pub member-returns-else-paired : goal.member-returns-else-paired
 member-returns-else-paired t c =
     rw c.if-paired.false (called c.requires.ready.here c.requires.begun.seen c.rule_e.ensures)
 
-pub pairs-value-inner-requires : goal.pairs-value-inner-requires
-pairs-value-inner-requires t c =
-    (omega arith, (c.requires.ready, c.requires.opener_lt_at.1))
-
-pub pairs-rest-more-requires : goal.pairs-rest-more-requires
-pairs-rest-more-requires t c =
+pub pairs-rest-requires : goal.pairs-rest-requires
+pairs-rest-requires t c =
     let r = c.requires.ready in
-    let g = after_node _ _ r.tokens _ modest_valued r.here c.requires.opener_lt_at.1 c.value-inner.ensures c.in-Node.is in
+    let g = after_node _ _ r.tokens _ modest_valued r.here c.requires.opener_lt_at.1 c.value.ensures c.in_ok-n.was in
     (omega arith, (ready_of r.tokens (omega arith), (g.1, g.1)))
 
 pub pairs-shut-requires : goal.pairs-shut-requires
 pairs-shut-requires t c =
     let r = c.requires.ready in
-    let g = after_node _ _ r.tokens _ modest_valued r.here c.requires.opener_lt_at.1 c.value-inner.ensures c.in-Node.is in
-    let d = c.rest-more.ensures.leads _ _ c.in-Node-more.is in
+    let g = after_node _ _ r.tokens _ modest_valued r.here c.requires.opener_lt_at.1 c.value.ensures c.in_ok-n.was in
+    let d = c.rest.ensures.leads _ _ c.in_ok-head.was in
     record { ready = d.ready; opener_lt_at = (omega (arith, d.on), refl, refl) }
 
-pub pairs-returns-in-Node-more : goal.pairs-returns-in-Node-more
-pairs-returns-in-Node-more t c =
-    let d = c.rest-more.ensures.leads _ _ c.in-Node-more.is in
-    record { comes = λ vs. flat_then c.value-inner.ensures c.in-Node.is (one_then (d.same _ _ _ _ (done_then ((c.shut.ensures _).comes vs)))) }
+pub pairs-returns : goal.pairs-returns
+pairs-returns t c =
+    let d = c.rest.ensures.leads _ _ c.in_ok-head.was in
+    record { comes = λ vs. flat_then c.value.ensures c.in_ok-n.was (one_then (d.same _ _ _ _ (done_then ((c.shut.ensures _).comes vs)))) }
 
-pub pairs-returns-in-Refused-more : goal.pairs-returns-in-Refused-more
-pairs-returns-in-Refused-more t c =
-    record { comes = λ vs. flat_then c.value-inner.ensures c.in-Node.is (one_then (c.rest-more.ensures.stops _ _ _ c.in-Refused-more.is _ _ _)) }
+pub pairs-returns-in_err-head : goal.pairs-returns-in_err-head
+pairs-returns-in_err-head t c =
+    rw (handed_on _ c.from_residual-in_err-head.ensures.1) (record { comes = λ vs. flat_then c.value.ensures c.in_ok-n.was (one_then (c.rest.ensures.stops _ _ _ c.in_err-head.was _ _ _)) })
 
-pub pairs-returns-in-Refused : goal.pairs-returns-in-Refused
-pairs-returns-in-Refused t c =
-    record { comes = λ vs. flat_stop _ _ c.value-inner.ensures c.in-Refused.is }
-
-pub paren-listed-requires : goal.paren-listed-requires
-paren-listed-requires t c =
-    (omega arith, (c.requires.ready, (c.requires.opener_lt_at.0, c.requires.opener_lt_at.1, refl, refl)))
+pub pairs-returns-in_err-n : goal.pairs-returns-in_err-n
+pairs-returns-in_err-n t c =
+    rw (handed_on _ c.from_residual.ensures.1) (record { comes = λ vs. flat_stop _ _ c.value.ensures c.in_err-n.was })
 
 pub paren-returns-then-is_symbol : goal.paren-returns-then-is_symbol
 unfolding begins null
@@ -503,15 +458,15 @@ paren-returns-else-is_symbol-2 t c =
 post-passed : (t : ℕ) (c : post-After-past-on t) → Taken c.args.src.now c.args.toks.now (code.Dot ∷ code.LParen ∷ code.LBracket ∷ []) c.args.s
 post-passed t c = taken_ready (code.Dot ∷ code.LParen ∷ code.LBracket ∷ []) refl refl c.requires.ready c.requires.n_lt_nodes.1
 
-pub post-symbol_at-requires-in-45 : goal.post-symbol_at-requires-in-45
-post-symbol_at-requires-in-45 t c =
-    rw c.past-on.ensures (record { tokens = (post-passed t (goal.at.post-symbol_at-requires-in-45 t c).After-past-on).tokens; at_bound = (post-passed t (goal.at.post-symbol_at-requires-in-45 t c).After-past-on).inside })
+pub post-symbol_at-requires-in-45-clause-at_bound : goal.post-symbol_at-requires-in-45-clause-at_bound
+post-symbol_at-requires-in-45-clause-at_bound t c =
+    rw c.past-on.ensures ((post-passed t (goal.at.post-symbol_at-requires-in-45-clause-at_bound t c).After-past-on).inside)
 
-pub post-put_attribute-made-requires : goal.post-put_attribute-made-requires
-post-put_attribute-made-requires t c =
-    let l = post-passed t (goal.at.post-put_attribute-made-requires t c).After-past-on in
+pub post-put_attribute-requires-clause-spot : goal.post-put_attribute-requires-clause-spot
+post-put_attribute-requires-clause-spot t c =
+    let l = post-passed t (goal.at.post-put_attribute-requires-clause-spot t c).After-past-on in
     let m = next_tested names refl refl l c.if-is_name.true c.is_name.ensures (rw c.past-on.ensures at c.symbol_at-in-45.ensures) in
-    record { spot = rw (c.past.ensures, c.past-on.ensures) (omega arith); n_lt_nodes = rw (c.past.ensures, c.past-on.ensures) (omega arith) }
+    rw (c.past.ensures, c.past-on.ensures) (omega arith)
 
 pub post-args-requires : goal.post-args-requires
 post-args-requires t c =
@@ -529,7 +484,7 @@ post-returns-then-is_name t c =
     let l = post-passed t (goal.at.post-returns-then-is_name t c).After-past-on in
     let e = coded (code.Dot ∷ []) 45 c.symbol_at.ensures c.in-45.is refl in
     let m = next_tested names refl refl l c.if-is_name.true c.is_name.ensures (rw c.past-on.ensures at c.symbol_at-in-45.ensures) in
-    record { comes = λ vs. or_first l.here e (tok_then l.here e (taken_wrote m (rw (c.past.ensures, c.past-on.ensures) at (c.put_attribute-made.ensures c.args.src.now)))) }
+    record { comes = λ vs. or_first l.here e (tok_then l.here e (taken_wrote m (rw (c.past.ensures, c.past-on.ensures) at (c.put_attribute.ensures c.args.src.now)))) }
 
 pub post-returns-else-is_name : goal.post-returns-else-is_name
 unfolding begins null
@@ -555,103 +510,89 @@ post-returns-in_default t c =
     let e = sym (not_first 45 (code.LParen ∷ code.LBracket ∷ []) c.symbol_at.ensures (omega arith) ∙ not_first 36 (code.LBracket ∷ []) c.symbol_at.ensures (omega arith)) ∙ c.requires.n_lt_nodes.1 in
     record { comes = λ vs. or_next r.here d (later (starts e)) (or_next r.here p (starts e) (tok_then r.here e (rw c.past-on.ensures at (c.index.ensures.comes vs)))) }
 
-pub posts-loop-tree-init : goal.posts-loop-tree-init
-posts-loop-tree-init t c =
-    begin c.requires.ready c.requires.first_lt_nodes
-
-pub posts-post-more-requires : goal.posts-post-more-requires
-posts-post-more-requires t c =
-    let i = c.loop-tree.invariant in
-    let e = learnt (code.Dot ∷ code.LParen ∷ code.LBracket ∷ []) c.if-begins_postfix.true c.begins_postfix.ensures c.symbol_at.ensures in
-    (omega arith, (i.ready, (i.node, e)))
-
 pub posts-loop-tree-smaller : goal.posts-loop-tree-smaller
 posts-loop-tree-smaller t c =
     let i = c.loop-tree.invariant in
-    let m = ready_tested (code.Dot ∷ code.LParen ∷ code.LBracket ∷ []) refl refl i.ready c.if-begins_postfix.true c.begins_postfix.ensures c.symbol_at.ensures in
-    let g = after_part _ _ i.ready.tokens _ bounded_postfix (omega arith) i.node c.post-more.ensures c.in-Node.is in
+    let m = ready_tested (code.Dot ∷ code.LParen ∷ code.LBracket ∷ []) refl refl i.ready c.loop-tree-test.true c.begins_postfix.ensures c.symbol_at.ensures in
+    let g = after_part _ _ i.ready.tokens _ bounded_postfix (omega arith) i.node c.post.ensures c.in_ok-m.was in
     omega arith
 
 pub posts-loop-tree-preserved : goal.posts-loop-tree-preserved
 unfolding begins null
 posts-loop-tree-preserved t c =
     let i = c.loop-tree.invariant in
-    let m = ready_tested (code.Dot ∷ code.LParen ∷ code.LBracket ∷ []) refl refl i.ready c.if-begins_postfix.true c.begins_postfix.ensures c.symbol_at.ensures in
-    let g = after_part _ _ i.ready.tokens _ bounded_postfix (omega arith) i.node c.post-more.ensures c.in-Node.is in
-    let k = c.post-more.auto.tree in
+    let m = ready_tested (code.Dot ∷ code.LParen ∷ code.LBracket ∷ []) refl refl i.ready c.loop-tree-test.true c.begins_postfix.ensures c.symbol_at.ensures in
+    let g = after_part _ _ i.ready.tokens _ bounded_postfix (omega arith) i.node c.post.ensures c.in_ok-m.was in
+    let k = c.post.auto.tree in
     record {
       ready = ready_of i.ready.tokens (omega arith);
       on = omega arith;
       long = omega arith;
       node = g.node;
-      same = λ vs came. i.same vs (turn_on low_postfix m.here m.seen (flat_then c.post-more.ensures c.in-Node.is came));
+      same = λ vs came. i.same vs (turn_on low_postfix m.here m.seen (flat_then c.post.ensures c.in_ok-m.was came));
     }
 
-pub posts-returns-in-Refused : goal.posts-returns-in-Refused
+pub posts-returns-in_err-m : goal.posts-returns-in_err-m
 unfolding begins null
-posts-returns-in-Refused t c =
+posts-returns-in_err-m t c =
     let i = c.loop-tree.invariant in
-    let e = learnt (code.Dot ∷ code.LParen ∷ code.LBracket ∷ []) c.if-begins_postfix.true c.begins_postfix.ensures c.symbol_at.ensures in
-    record { comes = λ vs. i.same vs (turn_on low_postfix i.ready.here e (flat_stop _ _ c.post-more.ensures c.in-Refused.is)) }
+    let e = learnt (code.Dot ∷ code.LParen ∷ code.LBracket ∷ []) c.loop-tree-test.true c.begins_postfix.ensures c.symbol_at.ensures in
+    rw (handed_on _ c.from_residual.ensures.1) (record { comes = λ vs. i.same vs (turn_on low_postfix i.ready.here e (flat_stop _ _ c.post.ensures c.in_err-m.was)) })
 
-pub posts-returns-else-begins_postfix : goal.posts-returns-else-begins_postfix
+pub posts-returns : goal.posts-returns
 unfolding begins null
-posts-returns-else-begins_postfix t c =
+posts-returns t c =
     let i = c.loop-tree.invariant in
-    let e = learnt (code.Dot ∷ code.LParen ∷ code.LBracket ∷ []) c.if-begins_postfix.false c.begins_postfix.ensures c.symbol_at.ensures in
+    let e = learnt (code.Dot ∷ code.LParen ∷ code.LBracket ∷ []) c.loop-tree-test.false c.begins_postfix.ensures c.symbol_at.ensures in
     record { comes = λ vs. i.same vs (turn_end low_postfix i.ready.here e i.ready.used) }
 
-pub rest-loop-on-init : goal.rest-loop-on-init
-rest-loop-on-init t c =
-    begin_list c.requires.ready c.requires.first_lt_nodes.1
-
 -- where a comma was taken
-rest-comma : (t : ℕ) (c : rest-After-past-on t) → Taken c.args.src.now c.args.toks.now (code.Comma ∷ []) c.loop-on.st
-rest-comma t c = ready_tested (code.Comma ∷ []) refl refl c.loop-on.invariant.ready c.if-is_symbol.true c.is_symbol.ensures c.symbol_at.ensures
+rest-comma : (t : ℕ) (c : rest-After-past-on t) → Taken c.args.src.now c.args.toks.now (code.Comma ∷ []) c.loop-last.st
+rest-comma t c = ready_tested (code.Comma ∷ []) refl refl c.loop-last.invariant.ready c.loop-last-test.true c.is_symbol.ensures c.symbol_at.ensures
 
 -- where an E begins behind it
-rest-begun : (t : ℕ) (c : rest-Then-begins_e t) → mem (symbol_at c.args.src.now c.args.toks.now (c.loop-on.st.at.0 + 1)) first_e ≡ true
-rest-begun t c = rw c.past-on.ensures at (learnt first_e c.if-begins_e.true c.begins_e.ensures c.symbol_at-then-is_symbol.ensures)
+rest-begun : (t : ℕ) (c : rest-Else-not-begins_e t) → mem (symbol_at c.args.src.now c.args.toks.now (c.loop-last.st.at.0 + 1)) first_e ≡ true
+rest-begun t c = rw c.past-on.ensures at (learnt first_e c.if-not-begins_e.false c.begins_e.ensures c.symbol_at-in-loop-last.ensures)
 
 -- where a member was read there
-rest-grown : (t : ℕ) (c : rest-In-Node t) (comma : Taken c.args.src.now c.args.toks.now (code.Comma ∷ []) c.loop-on.st) (begun : mem (symbol_at c.args.src.now c.args.toks.now (c.loop-on.st.at.0 + 1)) first_e ≡ true) → Grown c.args.src.now c.args.toks.now 8 (past c.loop-on.st) c.in-Node.n c.in-Node.after
+rest-grown : (t : ℕ) (c : rest-In_ok-n t) (comma : Taken c.args.src.now c.args.toks.now (code.Comma ∷ []) c.loop-last.st) (begun : mem (symbol_at c.args.src.now c.args.toks.now (c.loop-last.st.at.0 + 1)) first_e ≡ true) → Grown c.args.src.now c.args.toks.now 8 (past c.loop-last.st) c.in_ok-n.field-0.0 c.in_ok-n.field-0.1
 rest-grown t c comma begun =
-    let w = c.loop-on.invariant.ready.tokens in
+    let w = c.loop-last.invariant.ready.tokens in
     let lt = before_eof first_e refl w comma.inside (begun) in
-    after_start _ _ w (bounded_member c.args.paired) lt (rw c.past-on.ensures at c.member-inner.ensures) c.in-Node.is
+    after_start _ _ w (bounded_member c.args.paired) lt (rw c.past-on.ensures at c.member.ensures) c.in_ok-n.was
 
-pub rest-symbol_at-requires-then-is_symbol : goal.rest-symbol_at-requires-then-is_symbol
-rest-symbol_at-requires-then-is_symbol t c = rw c.past-on.ensures (record { tokens = (rest-comma t (goal.at.rest-symbol_at-requires-then-is_symbol t c).After-past-on).tokens; at_bound = (rest-comma t (goal.at.rest-symbol_at-requires-then-is_symbol t c).After-past-on).inside })
+pub rest-symbol_at-requires-in-loop-last-clause-at_bound : goal.rest-symbol_at-requires-in-loop-last-clause-at_bound
+rest-symbol_at-requires-in-loop-last-clause-at_bound t c = rw c.past-on.ensures ((rest-comma t (goal.at.rest-symbol_at-requires-in-loop-last-clause-at_bound t c).After-past-on).inside)
 
-pub rest-member-inner-requires : goal.rest-member-inner-requires
+pub rest-member-requires : goal.rest-member-requires
 unfolding first
-rest-member-inner-requires t c =
-    let i = c.loop-on.invariant in
-    let m = rest-comma t (goal.at.rest-member-inner-requires t c).After-past-on in
-    rw c.past-on.ensures (omega (arith, c.decreases, i.on, m.inside, i.ready.tokens.whole), (ready_of i.ready.tokens (omega arith), record { seen = rest-begun t (goal.at.rest-member-inner-requires t c).Then-begins_e }))
+rest-member-requires t c =
+    let i = c.loop-last.invariant in
+    let m = rest-comma t (goal.at.rest-member-requires t c).After-past-on in
+    rw c.past-on.ensures (omega (arith, c.decreases, i.on, m.inside, i.ready.tokens.whole), (ready_of i.ready.tokens (omega arith), record { seen = rest-begun t (goal.at.rest-member-requires t c).Else-not-begins_e }))
 
 pub rest-link-requires : goal.rest-link-requires
 rest-link-requires t c =
-    let i = c.loop-on.invariant in
+    let i = c.loop-last.invariant in
     let m = rest-comma t (goal.at.rest-link-requires t c).After-past-on in
-    let g = rest-grown t (goal.at.rest-link-requires t c).In-Node (rest-comma t (goal.at.rest-link-requires t c).After-past-on) (rest-begun t (goal.at.rest-link-requires t c).Then-begins_e) in
-    omega (arith, c.member-inner.auto.tree)
+    let g = rest-grown t (goal.at.rest-link-requires t c).In_ok-n (rest-comma t (goal.at.rest-link-requires t c).After-past-on) (rest-begun t (goal.at.rest-link-requires t c).Else-not-begins_e) in
+    omega (arith, c.member.auto.tree)
 
-pub rest-loop-on-smaller : goal.rest-loop-on-smaller
-rest-loop-on-smaller t c =
-    let i = c.loop-on.invariant in
-    let m = rest-comma t (goal.at.rest-loop-on-smaller t c).After-past-on in
-    let g = rest-grown t (goal.at.rest-loop-on-smaller t c).In-Node (rest-comma t (goal.at.rest-loop-on-smaller t c).After-past-on) (rest-begun t (goal.at.rest-loop-on-smaller t c).Then-begins_e) in
+pub rest-loop-last-smaller : goal.rest-loop-last-smaller
+rest-loop-last-smaller t c =
+    let i = c.loop-last.invariant in
+    let m = rest-comma t (goal.at.rest-loop-last-smaller t c).After-past-on in
+    let g = rest-grown t (goal.at.rest-loop-last-smaller t c).In_ok-n (rest-comma t (goal.at.rest-loop-last-smaller t c).After-past-on) (rest-begun t (goal.at.rest-loop-last-smaller t c).Else-not-begins_e) in
     omega arith
 
-pub rest-loop-on-preserved : goal.rest-loop-on-preserved
+pub rest-loop-last-preserved : goal.rest-loop-last-preserved
 unfolding begins null
-rest-loop-on-preserved t c =
-    let i = c.loop-on.invariant in
-    let m = rest-comma t (goal.at.rest-loop-on-preserved t c).After-past-on in
-    let g = rest-grown t (goal.at.rest-loop-on-preserved t c).In-Node (rest-comma t (goal.at.rest-loop-on-preserved t c).After-past-on) (rest-begun t (goal.at.rest-loop-on-preserved t c).Then-begins_e) in
+rest-loop-last-preserved t c =
+    let i = c.loop-last.invariant in
+    let m = rest-comma t (goal.at.rest-loop-last-preserved t c).After-past-on in
+    let g = rest-grown t (goal.at.rest-loop-last-preserved t c).In_ok-n (rest-comma t (goal.at.rest-loop-last-preserved t c).After-past-on) (rest-begun t (goal.at.rest-loop-last-preserved t c).Else-not-begins_e) in
     let v = c.args.paired in
-    let k = c.member-inner.auto.tree in
+    let k = c.member.auto.tree in
     let k₂ = c.link.auto.tree in
     record {
       ready = ready_of i.ready.tokens (omega arith);
@@ -660,47 +601,47 @@ rest-loop-on-preserved t c =
       spare = omega arith;
       long = omega arith;
       node = g.node;
-      same = λ out q vs ws came. i.same out q vs ws (list_on (low_member v) m.inside m.seen (rw (begins_member v) (rest-begun t (goal.at.rest-loop-on-preserved t c).Then-begins_e)) (part_then (rw c.past-on.ensures at c.member-inner.ensures) c.in-Node.is (one_then (changed_then ws (c.link.ensures _ _ _ _) came))));
+      same = λ out q vs ws came. i.same out q vs ws (list_on (low_member v) m.inside m.seen (rw (begins_member v) (rest-begun t (goal.at.rest-loop-last-preserved t c).Else-not-begins_e)) (part_then (rw c.past-on.ensures at c.member.ensures) c.in_ok-n.was (one_then (changed_then ws (c.link.ensures _ _ _ _) came))));
     }
 
-pub rest-returns-in-Refused : goal.rest-returns-in-Refused
+pub rest-returns-in_err-n : goal.rest-returns-in_err-n
 unfolding begins null
-rest-returns-in-Refused t c =
-    let i = c.loop-on.invariant in
-    let m = rest-comma t (goal.at.rest-returns-in-Refused t c).After-past-on in
+rest-returns-in_err-n t c =
+    let i = c.loop-last.invariant in
+    let m = rest-comma t (goal.at.rest-returns-in_err-n t c).After-past-on in
     let v = c.args.paired in
-    lists_stop (λ out q vs ws. i.same out q vs ws (list_on (low_member v) m.inside m.seen (rw (begins_member v) (rest-begun t (goal.at.rest-returns-in-Refused t c).Then-begins_e)) (part_stop _ (rw c.past-on.ensures at c.member-inner.ensures) c.in-Refused.is)))
+    rw (handed_on _ c.from_residual.ensures.1) (lists_stop (λ out q vs ws. i.same out q vs ws (list_on (low_member v) m.inside m.seen (rw (begins_member v) (rest-begun t (goal.at.rest-returns-in_err-n t c).Else-not-begins_e)) (part_stop _ (rw c.past-on.ensures at c.member.ensures) c.in_err-n.was))))
 
-pub rest-returns-else-begins_e : goal.rest-returns-else-begins_e
+pub rest-returns-then-not-begins_e : goal.rest-returns-then-not-begins_e
 unfolding begins null
-rest-returns-else-begins_e t c =
+rest-returns-then-not-begins_e t c =
     let v = c.args.paired in
-    let i = c.loop-on.invariant in
-    let m = rest-comma t (goal.at.rest-returns-else-begins_e t c).After-past-on in
-    let b = rw c.past-on.ensures at (learnt first_e c.if-begins_e.false c.begins_e.ensures c.symbol_at-then-is_symbol.ensures) in
+    let i = c.loop-last.invariant in
+    let m = rest-comma t (goal.at.rest-returns-then-not-begins_e t c).After-past-on in
+    let b = rw c.past-on.ensures at (learnt first_e c.if-not-begins_e.true c.begins_e.ensures c.symbol_at-in-loop-last.ensures) in
     rw c.past-on.ensures (lists_node (record {
       ready = ready_of i.ready.tokens (omega arith);
       on = omega arith;
       kept = i.kept;
       spare = omega arith;
       there = omega (arith, i.kept, c.requires.first_lt_nodes.0);
-      last = c.loop-on.last.0;
+      last = c.loop-last.last.0;
       same = λ out q vs ws came. i.same out q vs ws (list_shut (low_member v) m.inside m.seen (rw (begins_member v) b) came);
     }))
 
-pub rest-returns-else-is_symbol : goal.rest-returns-else-is_symbol
+pub rest-returns : goal.rest-returns
 unfolding begins null
-rest-returns-else-is_symbol t c =
+rest-returns t c =
     let v = c.args.paired in
-    let i = c.loop-on.invariant in
-    let e = learnt (code.Comma ∷ []) c.if-is_symbol.false c.is_symbol.ensures c.symbol_at.ensures in
+    let i = c.loop-last.invariant in
+    let e = learnt (code.Comma ∷ []) c.loop-last-test.false c.is_symbol.ensures c.symbol_at.ensures in
     lists_node (record {
       ready = i.ready;
       on = i.on;
       kept = i.kept;
       spare = i.spare;
       there = omega (arith, i.kept, c.requires.first_lt_nodes.0);
-      last = c.loop-on.last.0;
+      last = c.loop-last.last.0;
       same = λ out q vs ws came. i.same out q vs ws (list_end (low_member v) i.ready.here e came);
     })
 
@@ -709,33 +650,33 @@ round-begun : (t : ℕ) (c : round-Then-begins_e t) → Begun c.args.src.now c.a
 unfolding first
 round-begun t c = record { seen = learnt first_e c.if-begins_e.true c.begins_e.ensures c.symbol_at-symbol.ensures }
 
-pub round-rule_e-inner-requires : goal.round-rule_e-inner-requires
-round-rule_e-inner-requires t c = (omega arith, (ready_of c.requires.ready.tokens (omega arith), round-begun t (goal.at.round-rule_e-inner-requires t c).Then-begins_e))
+pub round-rule_e-requires : goal.round-rule_e-requires
+round-rule_e-requires t c = (omega arith, (ready_of c.requires.ready.tokens (omega arith), round-begun t (goal.at.round-rule_e-requires t c).Then-begins_e))
 
 pub round-paren-requires : goal.round-paren-requires
 round-paren-requires t c =
-    let g = after-e c.requires.ready (round-begun t (goal.at.round-paren-requires t c).Then-begins_e) c.rule_e-inner.ensures c.in-Node.is in
+    let g = after-e c.requires.ready (round-begun t (goal.at.round-paren-requires t c).Then-begins_e) c.rule_e.ensures c.in_ok-n.was in
     (omega arith, (ready_of c.requires.ready.tokens (omega arith), (omega arith, g.node)))
 
-pub round-unit-requires : goal.round-unit-requires
-round-unit-requires t c =
+pub round-unit-requires-clause-ready : goal.round-unit-requires-clause-ready
+round-unit-requires-clause-ready t c =
     let r = c.requires.ready in
     let m = ready_tested (code.RParen ∷ []) refl refl r c.if-is_symbol.true c.is_symbol.ensures c.symbol_at-symbol.ensures in
-    rw c.past.ensures (record { ready = ready_of r.tokens (omega arith); opener_lt_at = omega arith })
+    rw c.past.ensures (ready_of r.tokens (omega arith))
 
-pub round-returns-in-Node : goal.round-returns-in-Node
+pub round-returns-in_ok-n : goal.round-returns-in_ok-n
 unfolding first begins null
-round-returns-in-Node t c =
+round-returns-in_ok-n t c =
     let h = c.requires.ready.here in
-    let b = (round-begun t (goal.at.round-returns-in-Node t c).Then-begins_e).seen in
-    record { comes = λ vs. or_first h b (part_then (called h b c.rule_e-inner.ensures) c.in-Node.is (c.paren.ensures.comes vs)) }
+    let b = (round-begun t (goal.at.round-returns-in_ok-n t c).Then-begins_e).seen in
+    record { comes = λ vs. or_first h b (part_then (called h b c.rule_e.ensures) c.in_ok-n.was (c.paren.ensures.comes vs)) }
 
-pub round-returns-in-Refused : goal.round-returns-in-Refused
+pub round-returns-in_err-n : goal.round-returns-in_err-n
 unfolding first begins null
-round-returns-in-Refused t c =
+round-returns-in_err-n t c =
     let h = c.requires.ready.here in
-    let b = (round-begun t (goal.at.round-returns-in-Refused t c).Then-begins_e).seen in
-    record { comes = λ vs. or_first h b (part_stop _ (called h b c.rule_e-inner.ensures) c.in-Refused.is) }
+    let b = (round-begun t (goal.at.round-returns-in_err-n t c).Then-begins_e).seen in
+    rw (handed_on _ c.from_residual.ensures.1) (record { comes = λ vs. or_first h b (part_stop _ (called h b c.rule_e.ensures) c.in_err-n.was) })
 
 pub round-returns-then-is_symbol : goal.round-returns-then-is_symbol
 unfolding first begins null
@@ -753,129 +694,11 @@ round-returns-else-is_symbol t c =
     let e = learnt (code.RParen ∷ []) c.if-is_symbol.false c.is_symbol.ensures c.symbol_at-symbol.ensures in
     record { comes = λ vs. or_neither r.here r.used b refl e refl }
 
--- an operand was read; and joined to what stands before it
-abbrev rule_a-operand : (t : ℕ) (c : rule_a-In-Node t) → Operand (grouping level.And)
-rule_a-operand t c =
-    operand_read c.loop-n.invariant c.rule_c-inner.ensures c.in-Node.is c.rule_c-inner.auto.tree
-
-abbrev rule_a-turn : (t : ℕ) (c : rule_a-After-join-made t) → Turn (grouping level.And)
-rule_a-turn t c = record { of = (operand_read c.loop-n.invariant c.rule_c-inner.ensures c.in-Node.is c.rule_c-inner.auto.tree); made = _; tr₂ = _; goes = goes level.And _ (c.join-made.ensures _); length = c.join-made.auto.tree }
-
-pub rule_a-loop-n-init : goal.rule_a-loop-n-init
-unfolding first rank
-rule_a-loop-n-init t c =
-    let r = c.requires.ready in
-    reading_starts (grouping level.And) (ready_of r.tokens (omega arith)) c.requires.begun.seen (omega arith)
-
-pub rule_a-rule_c-inner-requires : goal.rule_a-rule_c-inner-requires
-unfolding first
-rule_a-rule_c-inner-requires t c =
-    let i = c.loop-n.invariant in
-    (omega (arith, c.decreases, i.on), (i.ready, record { seen = i.seen }))
-
-pub rule_a-join-made-requires : goal.rule_a-join-made-requires
-rule_a-join-made-requires t c =
-    let w = rule_a-operand t (goal.at.rule_a-join-made-requires t c).In-Node in
-    record { spot = operand_spot w; held = operand_held w }
-
-pub rule_a-look-behind-requires : goal.rule_a-look-behind-requires
-rule_a-look-behind-requires t c =
-    let w = rule_a-turn t (goal.at.rule_a-look-behind-requires t c).After-join-made in
-    record { tokens = w.of.reading.ready.tokens; at_bound = turn_here w }
-
-pub rule_a-loop-n-smaller : goal.rule_a-loop-n-smaller
-rule_a-loop-n-smaller t c =
-    let w = rule_a-turn t (goal.at.rule_a-loop-n-smaller t c).After-join-made in
-    let s = c.look-behind.ensures.operand _ c.in-Operand.is in
-    omega (arith, turn_less w s.0 s.1, (turn_goes w s.0 s.1 s.2).ready.here)
-
-pub rule_a-loop-n-preserved : goal.rule_a-loop-n-preserved
-rule_a-loop-n-preserved t c =
-    let s = c.look-behind.ensures.operand _ c.in-Operand.is in
-    turn_goes (rule_a-turn t (goal.at.rule_a-loop-n-preserved t c).After-join-made) s.0 s.1 s.2
-
-pub rule_a-returns-in-Nothing : goal.rule_a-returns-in-Nothing
-unfolding joined plain opens
-rule_a-returns-in-Nothing t c =
-    let w = rule_a-turn t (goal.at.rule_a-returns-in-Nothing t c).After-join-made in
-    open_plain refl (λ vs. turn_ends w (c.look-behind.ensures.nothing c.in-Nothing.is) vs)
-
-pub rule_a-returns-in-Missing : goal.rule_a-returns-in-Missing
-unfolding joined plain opens
-rule_a-returns-in-Missing t c =
-    let w = rule_a-turn t (goal.at.rule_a-returns-in-Missing t c).After-join-made in
-    let s = c.look-behind.ensures.missing _ c.in-Missing.is in
-    open_plain refl (λ vs. turn_misses w s.0 s.1 s.2 vs)
-
-pub rule_a-returns-in-Refused : goal.rule_a-returns-in-Refused
-unfolding joined plain opens
-rule_a-returns-in-Refused t c =
-    open_plain refl (λ vs. reading_stops c.loop-n.invariant c.rule_c-inner.ensures c.in-Refused.is vs)
-
--- an operand was read; and joined to what stands before it
-abbrev rule_c-operand : (t : ℕ) (c : rule_c-In-Node t) → Operand comparing
-rule_c-operand t c =
-    operand_read c.loop-n.invariant c.rule_s-inner.ensures c.in-Node.is c.rule_s-inner.auto.tree
-
-abbrev rule_c-turn : (t : ℕ) (c : rule_c-After-compare-made t) → Turn comparing
-rule_c-turn t c = record { of = (operand_read c.loop-n.invariant c.rule_s-inner.ensures c.in-Node.is c.rule_s-inner.auto.tree); made = _; tr₂ = _; goes = comparing_goes _ (c.compare-made.ensures _); length = c.compare-made.auto.tree }
-
-pub rule_c-loop-n-init : goal.rule_c-loop-n-init
-unfolding first rank
-rule_c-loop-n-init t c =
-    let r = c.requires.ready in
-    reading_starts comparing (ready_of r.tokens (omega arith)) c.requires.begun.seen (omega arith)
-
-pub rule_c-rule_s-inner-requires : goal.rule_c-rule_s-inner-requires
-unfolding first
-rule_c-rule_s-inner-requires t c =
-    let i = c.loop-n.invariant in
-    (omega (arith, c.decreases, i.on), (i.ready, record { seen = i.seen }))
-
-pub rule_c-compare-made-requires : goal.rule_c-compare-made-requires
-rule_c-compare-made-requires t c =
-    let w = rule_c-operand t (goal.at.rule_c-compare-made-requires t c).In-Node in
-    record { spot = operand_next w; hung = operand_held w }
-
-pub rule_c-look-behind-requires : goal.rule_c-look-behind-requires
-rule_c-look-behind-requires t c =
-    let w = rule_c-turn t (goal.at.rule_c-look-behind-requires t c).After-compare-made in
-    record { tokens = w.of.reading.ready.tokens; at_bound = turn_here w }
-
-pub rule_c-loop-n-smaller : goal.rule_c-loop-n-smaller
-rule_c-loop-n-smaller t c =
-    let w = rule_c-turn t (goal.at.rule_c-loop-n-smaller t c).After-compare-made in
-    let s = c.look-behind.ensures.operand _ c.in-Operand.is in
-    omega (arith, turn_less w s.0 s.1, (turn_goes w s.0 s.1 s.2).ready.here)
-
-pub rule_c-loop-n-preserved : goal.rule_c-loop-n-preserved
-rule_c-loop-n-preserved t c =
-    let s = c.look-behind.ensures.operand _ c.in-Operand.is in
-    rw c.lengthen-before.ensures (turn_goes (rule_c-turn t (goal.at.rule_c-loop-n-preserved t c).After-compare-made) s.0 s.1 s.2)
-
-pub rule_c-returns-in-Nothing : goal.rule_c-returns-in-Nothing
-unfolding joined plain opens
-rule_c-returns-in-Nothing t c =
-    let w = rule_c-turn t (goal.at.rule_c-returns-in-Nothing t c).After-compare-made in
-    open_plain refl (λ vs. turn_ends w (c.look-behind.ensures.nothing c.in-Nothing.is) vs)
-
-pub rule_c-returns-in-Missing : goal.rule_c-returns-in-Missing
-unfolding joined plain opens
-rule_c-returns-in-Missing t c =
-    let w = rule_c-turn t (goal.at.rule_c-returns-in-Missing t c).After-compare-made in
-    let s = c.look-behind.ensures.missing _ c.in-Missing.is in
-    open_plain refl (λ vs. turn_misses w s.0 s.1 s.2 vs)
-
-pub rule_c-returns-in-Refused : goal.rule_c-returns-in-Refused
-unfolding joined plain opens
-rule_c-returns-in-Refused t c =
-    open_plain refl (λ vs. reading_stops c.loop-n.invariant c.rule_s-inner.ensures c.in-Refused.is vs)
-
 pub rule_e-lambda-requires : goal.rule_e-lambda-requires
 rule_e-lambda-requires t c =
     let r = c.requires.ready in
     let m = ready_tested (code.Lambda ∷ []) refl refl r c.if-is_symbol.true c.is_symbol.ensures c.symbol_at.ensures in
-    (omega arith, (ready_of r.tokens (omega arith), omega arith))
+    rw c.past.ensures (omega arith, (ready_of r.tokens (omega arith), omega arith))
 
 pub rule_e-rule_o-requires : goal.rule_e-rule_o-requires
 unfolding first
@@ -893,7 +716,7 @@ unfolding joined plain first begins null opens
 rule_e-returns-then-is_symbol t c =
     let r = c.requires.ready in
     let e = learnt (code.Lambda ∷ []) c.if-is_symbol.true c.is_symbol.ensures c.symbol_at.ensures in
-    open_room refl c.if-left-eq0.false (λ vs. or_first r.here e (tok_mark r.here e (c.lambda.ensures.comes vs)))
+    open_room refl c.if-left-eq0.false (λ vs. or_first r.here e (tok_mark r.here e (rw c.past.ensures at (c.lambda.ensures.comes vs))))
 
 pub rule_e-returns-else-is_symbol : goal.rule_e-returns-else-is_symbol
 unfolding joined plain first begins null opens
@@ -903,304 +726,393 @@ rule_e-returns-else-is_symbol t c =
     let b = without code.Lambda first_u (symbol_at c.args.src.now c.args.toks.now c.args.s.at.0) e c.requires.begun.seen in
     open_room refl c.if-left-eq0.false (λ vs. or_next r.here e (starts b) ((called r.here b c.rule_o.ensures).comes vs))
 
-pub rule_f-head-inner-requires : goal.rule_f-head-inner-requires
-rule_f-head-inner-requires t c =
-    (omega arith, (ready_of c.requires.ready.tokens (omega arith), record { seen = c.requires.begun.seen }))
-
 pub rule_f-posts-requires : goal.rule_f-posts-requires
 unfolding first
 rule_f-posts-requires t c =
     let r = c.requires.ready in
     let lt = before_eof first_f refl r.tokens r.here c.requires.begun.seen in
-    let g = after_start _ _ r.tokens bounded_primary lt c.head-inner.ensures c.in-Node.is in
+    let g = after_start _ _ r.tokens bounded_primary lt c.head.ensures c.in_ok-n.was in
     (omega arith, (ready_of r.tokens (omega arith), g.node))
 
-pub rule_f-returns-in-Node : goal.rule_f-returns-in-Node
+pub rule_f-returns : goal.rule_f-returns
 unfolding joined opens
-rule_f-returns-in-Node t c =
-    open_plain refl (λ vs. part_then c.head-inner.ensures c.in-Node.is (c.posts.ensures.comes vs))
+rule_f-returns t c =
+    open_plain refl (λ vs. part_then c.head.ensures c.in_ok-n.was (c.posts.ensures.comes vs))
 
-pub rule_f-returns-in-Refused : goal.rule_f-returns-in-Refused
+pub rule_f-returns-in_err-n : goal.rule_f-returns-in_err-n
 unfolding joined opens
-rule_f-returns-in-Refused t c =
-    open_plain refl (λ vs. part_stop vs c.head-inner.ensures c.in-Refused.is)
+rule_f-returns-in_err-n t c =
+    rw (handed_on _ c.from_residual.ensures.1) (open_plain refl (λ vs. part_stop vs c.head.ensures c.in_err-n.was))
 
--- an operand was read; and joined to what stands before it
-abbrev rule_o-operand : (t : ℕ) (c : rule_o-In-Node t) → Operand (grouping level.Or)
-rule_o-operand t c =
-    operand_read c.loop-n.invariant c.rule_a-inner.ensures c.in-Node.is c.rule_a-inner.auto.tree
-
-abbrev rule_o-turn : (t : ℕ) (c : rule_o-After-join-made t) → Turn (grouping level.Or)
-rule_o-turn t c = record { of = (operand_read c.loop-n.invariant c.rule_a-inner.ensures c.in-Node.is c.rule_a-inner.auto.tree); made = _; tr₂ = _; goes = goes level.Or _ (c.join-made.ensures _); length = c.join-made.auto.tree }
-
-pub rule_o-loop-n-init : goal.rule_o-loop-n-init
-unfolding first rank
-rule_o-loop-n-init t c =
-    let r = c.requires.ready in
-    reading_starts (grouping level.Or) (ready_of r.tokens (omega arith)) c.requires.begun.seen (omega arith)
-
-pub rule_o-rule_a-inner-requires : goal.rule_o-rule_a-inner-requires
+pub rule_u-behind_signs-requires-clause-first_u_value : goal.rule_u-behind_signs-requires-clause-first_u_value
 unfolding first
-rule_o-rule_a-inner-requires t c =
-    let i = c.loop-n.invariant in
-    (omega (arith, c.decreases, i.on), (i.ready, record { seen = i.seen }))
+rule_u-behind_signs-requires-clause-first_u_value t c = search rules
 
-pub rule_o-join-made-requires : goal.rule_o-join-made-requires
-rule_o-join-made-requires t c =
-    let w = rule_o-operand t (goal.at.rule_o-join-made-requires t c).In-Node in
-    record { spot = operand_spot w; held = operand_held w }
-
-pub rule_o-look-behind-requires : goal.rule_o-look-behind-requires
-rule_o-look-behind-requires t c =
-    let w = rule_o-turn t (goal.at.rule_o-look-behind-requires t c).After-join-made in
-    record { tokens = w.of.reading.ready.tokens; at_bound = turn_here w }
-
-pub rule_o-loop-n-smaller : goal.rule_o-loop-n-smaller
-rule_o-loop-n-smaller t c =
-    let w = rule_o-turn t (goal.at.rule_o-loop-n-smaller t c).After-join-made in
-    let s = c.look-behind.ensures.operand _ c.in-Operand.is in
-    omega (arith, turn_less w s.0 s.1, (turn_goes w s.0 s.1 s.2).ready.here)
-
-pub rule_o-loop-n-preserved : goal.rule_o-loop-n-preserved
-rule_o-loop-n-preserved t c =
-    let s = c.look-behind.ensures.operand _ c.in-Operand.is in
-    turn_goes (rule_o-turn t (goal.at.rule_o-loop-n-preserved t c).After-join-made) s.0 s.1 s.2
-
-pub rule_o-returns-in-Nothing : goal.rule_o-returns-in-Nothing
-unfolding joined plain opens
-rule_o-returns-in-Nothing t c =
-    let w = rule_o-turn t (goal.at.rule_o-returns-in-Nothing t c).After-join-made in
-    open_plain refl (λ vs. turn_ends w (c.look-behind.ensures.nothing c.in-Nothing.is) vs)
-
-pub rule_o-returns-in-Missing : goal.rule_o-returns-in-Missing
-unfolding joined plain opens
-rule_o-returns-in-Missing t c =
-    let w = rule_o-turn t (goal.at.rule_o-returns-in-Missing t c).After-join-made in
-    let s = c.look-behind.ensures.missing _ c.in-Missing.is in
-    open_plain refl (λ vs. turn_misses w s.0 s.1 s.2 vs)
-
-pub rule_o-returns-in-Refused : goal.rule_o-returns-in-Refused
-unfolding joined plain opens
-rule_o-returns-in-Refused t c =
-    open_plain refl (λ vs. reading_stops c.loop-n.invariant c.rule_a-inner.ensures c.in-Refused.is vs)
-
--- an operand was read; and joined to what stands before it
-abbrev rule_p-operand : (t : ℕ) (c : rule_p-In-Node t) → Operand (grouping level.Product)
-rule_p-operand t c =
-    operand_read c.loop-n.invariant c.rule_u-inner.ensures c.in-Node.is c.rule_u-inner.auto.tree
-
-abbrev rule_p-turn : (t : ℕ) (c : rule_p-After-join-made t) → Turn (grouping level.Product)
-rule_p-turn t c = record { of = (operand_read c.loop-n.invariant c.rule_u-inner.ensures c.in-Node.is c.rule_u-inner.auto.tree); made = _; tr₂ = _; goes = goes level.Product _ (c.join-made.ensures _); length = c.join-made.auto.tree }
-
-pub rule_p-loop-n-init : goal.rule_p-loop-n-init
-unfolding first rank
-rule_p-loop-n-init t c =
-    let r = c.requires.ready in
-    reading_starts (grouping level.Product) (ready_of r.tokens (omega arith)) c.requires.begun.seen (omega arith)
-
-pub rule_p-rule_u-inner-requires : goal.rule_p-rule_u-inner-requires
+pub rule_u-rule_f-requires : goal.rule_u-rule_f-requires
 unfolding first
-rule_p-rule_u-inner-requires t c =
-    let i = c.loop-n.invariant in
-    (omega (arith, c.decreases, i.on), (i.ready, record { seen = i.seen }))
-
-pub rule_p-join-made-requires : goal.rule_p-join-made-requires
-rule_p-join-made-requires t c =
-    let w = rule_p-operand t (goal.at.rule_p-join-made-requires t c).In-Node in
-    record { spot = operand_spot w; held = operand_held w }
-
-pub rule_p-look-behind-requires : goal.rule_p-look-behind-requires
-rule_p-look-behind-requires t c =
-    let w = rule_p-turn t (goal.at.rule_p-look-behind-requires t c).After-join-made in
-    record { tokens = w.of.reading.ready.tokens; at_bound = turn_here w }
-
-pub rule_p-loop-n-smaller : goal.rule_p-loop-n-smaller
-rule_p-loop-n-smaller t c =
-    let w = rule_p-turn t (goal.at.rule_p-loop-n-smaller t c).After-join-made in
-    let s = c.look-behind.ensures.operand _ c.in-Operand.is in
-    omega (arith, turn_less w s.0 s.1, (turn_goes w s.0 s.1 s.2).ready.here)
-
-pub rule_p-loop-n-preserved : goal.rule_p-loop-n-preserved
-rule_p-loop-n-preserved t c =
-    let s = c.look-behind.ensures.operand _ c.in-Operand.is in
-    turn_goes (rule_p-turn t (goal.at.rule_p-loop-n-preserved t c).After-join-made) s.0 s.1 s.2
-
-pub rule_p-returns-in-Nothing : goal.rule_p-returns-in-Nothing
-unfolding joined plain opens
-rule_p-returns-in-Nothing t c =
-    let w = rule_p-turn t (goal.at.rule_p-returns-in-Nothing t c).After-join-made in
-    open_plain refl (λ vs. turn_ends w (c.look-behind.ensures.nothing c.in-Nothing.is) vs)
-
-pub rule_p-returns-in-Missing : goal.rule_p-returns-in-Missing
-unfolding joined plain opens
-rule_p-returns-in-Missing t c =
-    let w = rule_p-turn t (goal.at.rule_p-returns-in-Missing t c).After-join-made in
-    let s = c.look-behind.ensures.missing _ c.in-Missing.is in
-    open_plain refl (λ vs. turn_misses w s.0 s.1 s.2 vs)
-
-pub rule_p-returns-in-Refused : goal.rule_p-returns-in-Refused
-unfolding joined plain opens
-rule_p-returns-in-Refused t c =
-    open_plain refl (λ vs. reading_stops c.loop-n.invariant c.rule_u-inner.ensures c.in-Refused.is vs)
-
--- an operand was read; and joined to what stands before it
-abbrev rule_s-operand : (t : ℕ) (c : rule_s-In-Node t) → Operand (grouping level.Sum)
-rule_s-operand t c =
-    operand_read c.loop-n.invariant c.rule_p-inner.ensures c.in-Node.is c.rule_p-inner.auto.tree
-
-abbrev rule_s-turn : (t : ℕ) (c : rule_s-After-join-made t) → Turn (grouping level.Sum)
-rule_s-turn t c = record { of = (operand_read c.loop-n.invariant c.rule_p-inner.ensures c.in-Node.is c.rule_p-inner.auto.tree); made = _; tr₂ = _; goes = goes level.Sum _ (c.join-made.ensures _); length = c.join-made.auto.tree }
-
-pub rule_s-loop-n-init : goal.rule_s-loop-n-init
-unfolding first rank
-rule_s-loop-n-init t c =
-    let r = c.requires.ready in
-    reading_starts (grouping level.Sum) (ready_of r.tokens (omega arith)) c.requires.begun.seen (omega arith)
-
-pub rule_s-rule_p-inner-requires : goal.rule_s-rule_p-inner-requires
-unfolding first
-rule_s-rule_p-inner-requires t c =
-    let i = c.loop-n.invariant in
-    (omega (arith, c.decreases, i.on), (i.ready, record { seen = i.seen }))
-
-pub rule_s-join-made-requires : goal.rule_s-join-made-requires
-rule_s-join-made-requires t c =
-    let w = rule_s-operand t (goal.at.rule_s-join-made-requires t c).In-Node in
-    record { spot = operand_spot w; held = operand_held w }
-
-pub rule_s-look-behind-requires : goal.rule_s-look-behind-requires
-rule_s-look-behind-requires t c =
-    let w = rule_s-turn t (goal.at.rule_s-look-behind-requires t c).After-join-made in
-    record { tokens = w.of.reading.ready.tokens; at_bound = turn_here w }
-
-pub rule_s-loop-n-smaller : goal.rule_s-loop-n-smaller
-rule_s-loop-n-smaller t c =
-    let w = rule_s-turn t (goal.at.rule_s-loop-n-smaller t c).After-join-made in
-    let s = c.look-behind.ensures.operand _ c.in-Operand.is in
-    omega (arith, turn_less w s.0 s.1, (turn_goes w s.0 s.1 s.2).ready.here)
-
-pub rule_s-loop-n-preserved : goal.rule_s-loop-n-preserved
-rule_s-loop-n-preserved t c =
-    let s = c.look-behind.ensures.operand _ c.in-Operand.is in
-    turn_goes (rule_s-turn t (goal.at.rule_s-loop-n-preserved t c).After-join-made) s.0 s.1 s.2
-
-pub rule_s-returns-in-Nothing : goal.rule_s-returns-in-Nothing
-unfolding joined plain opens
-rule_s-returns-in-Nothing t c =
-    let w = rule_s-turn t (goal.at.rule_s-returns-in-Nothing t c).After-join-made in
-    open_plain refl (λ vs. turn_ends w (c.look-behind.ensures.nothing c.in-Nothing.is) vs)
-
-pub rule_s-returns-in-Missing : goal.rule_s-returns-in-Missing
-unfolding joined plain opens
-rule_s-returns-in-Missing t c =
-    let w = rule_s-turn t (goal.at.rule_s-returns-in-Missing t c).After-join-made in
-    let s = c.look-behind.ensures.missing _ c.in-Missing.is in
-    open_plain refl (λ vs. turn_misses w s.0 s.1 s.2 vs)
-
-pub rule_s-returns-in-Refused : goal.rule_s-returns-in-Refused
-unfolding joined plain opens
-rule_s-returns-in-Refused t c =
-    open_plain refl (λ vs. reading_stops c.loop-n.invariant c.rule_p-inner.ensures c.in-Refused.is vs)
-
-pub rule_u-behind_signs-requires : goal.rule_u-behind_signs-requires
-unfolding first
-rule_u-behind_signs-requires t c = search rules
-
-pub rule_u-rule_f-inner-requires : goal.rule_u-rule_f-inner-requires
-unfolding first
-rule_u-rule_f-inner-requires t c =
+rule_u-rule_f-requires t c =
     let r = c.requires.ready in
     let k = c.skip_signs-end.ensures in
     let q = run_text sign_set refl refl r.tokens k in
-    let e = sym c.behind_signs.ensures ∙ c.if-behind_signs.true in
+    let e = sym c.behind_signs.ensures ∙ c.if-not-behind_signs.false in
     (omega arith, (ready_of r.tokens (omega arith), record { seen = e }))
 
-pub rule_u-wrap-made-requires : goal.rule_u-wrap-made-requires
+pub rule_u-wrap-requires : goal.rule_u-wrap-requires
 unfolding first rank
-rule_u-wrap-made-requires t c =
+rule_u-wrap-requires t c =
     let r = c.requires.ready in
     let k = c.skip_signs-end.ensures in
-    let e = sym c.behind_signs.ensures ∙ c.if-behind_signs.true in
+    let e = sym c.behind_signs.ensures ∙ c.if-not-behind_signs.false in
     let lt = before_eof first_f refl r.tokens k.inside e in
-    let g = after_rule _ _ r.tokens spares_f lt c.rule_f-inner.ensures c.in-Node.is in
-    omega (arith, c.rule_f-inner.auto.tree, r.nodes, r.room, r.tokens.few, k.order, g.on, g.nodes, g.here)
+    let g = after_rule _ _ r.tokens spares_f lt c.rule_f.ensures c.in_ok-n.was in
+    omega (arith, c.rule_f.auto.tree, r.nodes, r.room, r.tokens.few, k.order, g.on, g.nodes, g.here)
 
-pub rule_u-returns-in-Node : goal.rule_u-returns-in-Node
+pub rule_u-returns : goal.rule_u-returns
 unfolding joined plain first opens rank
-rule_u-returns-in-Node t c =
+rule_u-returns t c =
     let r = c.requires.ready in
     let k = c.skip_signs-end.ensures in
-    let e = sym c.behind_signs.ensures ∙ c.if-behind_signs.true in
+    let e = sym c.behind_signs.ensures ∙ c.if-not-behind_signs.false in
     let lt = before_eof first_f refl r.tokens k.inside e in
-    let g = after_rule _ _ r.tokens spares_f lt c.rule_f-inner.ensures c.in-Node.is in
-    open_plain refl (λ vs. signs_then (signs_pass k (part_then (called k.inside e c.rule_f-inner.ensures) c.in-Node.is (act_wrapped g.used (c.wrap-made.ensures _)))))
+    let g = after_rule _ _ r.tokens spares_f lt c.rule_f.ensures c.in_ok-n.was in
+    open_plain refl (λ vs. signs_then (signs_pass k (part_then (called k.inside e c.rule_f.ensures) c.in_ok-n.was (act_wrapped g.used (c.wrap.ensures _)))))
 
-pub rule_u-returns-in-Refused : goal.rule_u-returns-in-Refused
+pub rule_u-returns-in_err-n : goal.rule_u-returns-in_err-n
 unfolding joined plain first opens
-rule_u-returns-in-Refused t c =
+rule_u-returns-in_err-n t c =
     let k = c.skip_signs-end.ensures in
-    let e = sym c.behind_signs.ensures ∙ c.if-behind_signs.true in
-    open_plain refl (λ vs. signs_then (signs_pass k (part_stop _ (called k.inside e c.rule_f-inner.ensures) c.in-Refused.is)))
-
-pub rule_u-returns-else-behind_signs : goal.rule_u-returns-else-behind_signs
-unfolding joined plain first opens
-rule_u-returns-else-behind_signs t c =
-    let r = c.requires.ready in
-    let k = c.skip_signs-end.ensures in
-    let e = sym c.behind_signs.ensures ∙ c.if-behind_signs.false in
-    open_plain refl (λ vs. signs_then (signs_pass k (part_stop _ (not_called k.inside (r.used ∙ sym (run_text sign_set refl refl r.tokens k)) e refl) refl)))
+    let e = sym c.behind_signs.ensures ∙ c.if-not-behind_signs.false in
+    rw (handed_on _ c.from_residual.ensures.1) (open_plain refl (λ vs. signs_then (signs_pass k (part_stop _ (called k.inside e c.rule_f.ensures) c.in_err-n.was))))
 
 pub shown-shut-requires : goal.shown-shut-requires
 shown-shut-requires t c =
     let r = c.requires.ready in
-    let g = after_list _ _ r.tokens modest_list r.here c.items-inner.ensures c.in-Node.is in
+    let g = after_list _ _ r.tokens modest_list r.here c.items.ensures c.in_ok-first.was in
     record { ready = ready_of r.tokens (omega arith); opener_lt_at = (omega arith, c.requires.opener_lt_at.1, c.requires.opener_lt_at.2) }
 
-pub shown-returns-in-Node : goal.shown-returns-in-Node
-shown-returns-in-Node t c =
-    record { comes = λ vs. part_then c.items-inner.ensures c.in-Node.is ((c.shut.ensures _).comes vs) }
+pub shown-returns : goal.shown-returns
+shown-returns t c =
+    record { comes = λ vs. part_then c.items.ensures c.in_ok-first.was ((c.shut.ensures _).comes vs) }
 
-pub shown-returns-in-Refused : goal.shown-returns-in-Refused
-shown-returns-in-Refused t c =
-    record { comes = λ vs. part_stop _ c.items-inner.ensures c.in-Refused.is }
+pub shown-returns-in_err-first : goal.shown-returns-in_err-first
+shown-returns-in_err-first t c =
+    rw (handed_on _ c.from_residual.ensures.1) (record { comes = λ vs. part_stop _ c.items.ensures c.in_err-first.was })
 
 pub tee-shown-requires : goal.tee-shown-requires
 tee-shown-requires t c =
     let r = c.requires.ready in
     let m = ready_tested (code.LBrace ∷ []) refl refl r c.if-is_symbol.true c.is_symbol.ensures c.symbol_at.ensures in
-    rw c.past.ensures (omega arith, (ready_of r.tokens (omega arith), (omega arith, refl, refl)))
+    rw c.past-on.ensures (omega arith, (ready_of r.tokens (omega arith), (omega arith, refl, refl)))
 
 pub tee-returns-then-is_symbol : goal.tee-returns-then-is_symbol
 unfolding begins null
 tee-returns-then-is_symbol t c =
     let r = c.requires.ready in
     let e = learnt (code.LBrace ∷ []) c.if-is_symbol.true c.is_symbol.ensures c.symbol_at.ensures in
-    record { comes = λ vs. or_first r.here e (mark_at (sym c.requires.opener_value) (tok_then r.here e (rw c.past.ensures at (c.shown.ensures.comes vs)))) }
+    record { comes = λ vs. or_first r.here e (mark_at (sym c.requires.opener_value) (tok_then r.here e (rw c.past-on.ensures at (c.shown.ensures.comes vs)))) }
 
 pub tee-returns-else-is_symbol : goal.tee-returns-else-is_symbol
 unfolding begins null
 tee-returns-else-is_symbol t c =
     let r = c.requires.ready in
     let e = learnt (code.LBrace ∷ []) c.if-is_symbol.false c.is_symbol.ensures c.symbol_at.ensures in
-    record { comes = λ vs. or_next r.here e (absent refl) (act_wrote r.used (c.put_named-made.ensures _)) }
+    record { comes = λ vs. or_next r.here e (absent refl) (act_wrote r.used (c.put_named.ensures _)) }
 
-pub value-enter-inner-requires : goal.value-enter-inner-requires
-value-enter-inner-requires t c =
+pub value-put_pair-requires : goal.value-put_pair-requires
+value-put_pair-requires t c =
     let r = c.requires.ready in
-    (omega arith, ready_of r.tokens (omega arith))
-
-pub value-put_pair-made-requires : goal.value-put_pair-made-requires
-value-put_pair-made-requires t c =
-    let r = c.requires.ready in
-    let g = after_enter r c.enter-inner.ensures c.in-Node.is in
+    let g = after_enter r c.enter.ensures c.in_ok-n.was in
     record { spot = omega arith; key_lt_nodes = omega arith }
 
-pub value-returns-in-Node : goal.value-returns-in-Node
-value-returns-in-Node t c =
+pub value-returns : goal.value-returns
+value-returns t c =
     let r = c.requires.ready in
-    let g = after_enter r c.enter-inner.ensures c.in-Node.is in
-    record { comes = λ vs. part_then c.enter-inner.ensures c.in-Node.is (act_wrote g.used (c.put_pair-made.ensures _)) }
+    let g = after_enter r c.enter.ensures c.in_ok-n.was in
+    record { comes = λ vs. part_then c.enter.ensures c.in_ok-n.was (act_wrote g.used (c.put_pair.ensures _)) }
 
-pub value-returns-in-Refused : goal.value-returns-in-Refused
-value-returns-in-Refused t c =
-    record { comes = λ vs. part_stop _ c.enter-inner.ensures c.in-Refused.is }
+pub value-returns-in_err-n : goal.value-returns-in_err-n
+value-returns-in_err-n t c =
+    rw (handed_on _ c.from_residual.ensures.1) (record { comes = λ vs. part_stop _ c.enter.ensures c.in_err-n.was })
+
+pub rule_o-loop-n-init : goal.rule_o-loop-n-init
+unfolding first rank
+rule_o-loop-n-init t c = reading_starts (grouping level.Or) (ready_of c.requires.ready.tokens (omega arith)) c.requires.begun.seen (omega arith)
+
+pub rule_o-rule_a-requires : goal.rule_o-rule_a-requires
+unfolding first
+rule_o-rule_a-requires t c =
+    let i = c.loop-n.invariant in
+    (omega (arith, c.decreases, i.on), (i.ready, record { seen = i.seen }))
+
+-- an operand was read; and joined to what stands before it
+abbrev rule_o-operand : (t : ℕ) (c : rule_o-In_ok-n t) → Operand (grouping level.Or)
+rule_o-operand t c = operand_read c.loop-n.invariant c.rule_a.ensures c.in_ok-n.was c.rule_a.auto.tree
+
+abbrev rule_o-turn : (t : ℕ) (c : rule_o-After-join t) → Turn (grouping level.Or)
+rule_o-turn t c = record { of = operand_read c.loop-n.invariant c.rule_a.ensures c.in_ok-n.was c.rule_a.auto.tree; made = _; tr₂ = _; goes = goes level.Or _ (c.join.ensures _); length = c.join.auto.tree }
+
+pub rule_o-returns-in_err-n : goal.rule_o-returns-in_err-n
+unfolding joined plain opens
+rule_o-returns-in_err-n t c = rw (handed_on _ c.from_residual.ensures.1) (open_plain refl (λ vs. reading_stops c.loop-n.invariant c.rule_a.ensures c.in_err-n.was vs))
+
+pub rule_o-join-requires : goal.rule_o-join-requires
+rule_o-join-requires t c =
+    let w = rule_o-operand t (goal.at.rule_o-join-requires t c).In_ok-n in
+    record { spot = operand_spot w; held = operand_held w }
+
+pub rule_o-look-requires-clause-at_bound : goal.rule_o-look-requires-clause-at_bound
+rule_o-look-requires-clause-at_bound t c =
+    let w = rule_o-turn t (goal.at.rule_o-look-requires-clause-at_bound t c).After-join in
+    turn_here w
+
+pub rule_o-returns-in_err-on : goal.rule_o-returns-in_err-on
+unfolding joined plain opens
+rule_o-returns-in_err-on t c =
+    let w = rule_o-turn t (goal.at.rule_o-returns-in_err-on t c).After-join in
+    let s = c.look.ensures.missing _ c.in_err-on.was in
+    rw (handed_on _ c.from_residual-in_err-on.ensures.1) (open_plain refl (λ vs. rw s.0 (turn_misses w refl s.1 s.2 vs)))
+
+pub rule_o-loop-n-smaller : goal.rule_o-loop-n-smaller
+rule_o-loop-n-smaller t c =
+    let w = rule_o-turn t (goal.at.rule_o-loop-n-smaller t c).After-join in
+    let s = c.look.ensures.operand _ (c.in_ok-on.was ∙ ap (λ (o : Option State). Ok o) c.in-Some.is) in
+    omega (arith, turn_less w s.0 s.1, (turn_goes w s.0 s.1 s.2).ready.here)
+
+pub rule_o-loop-n-preserved : goal.rule_o-loop-n-preserved
+rule_o-loop-n-preserved t c =
+    let s = c.look.ensures.operand _ (c.in_ok-on.was ∙ ap (λ (o : Option State). Ok o) c.in-Some.is) in
+    turn_goes (rule_o-turn t (goal.at.rule_o-loop-n-preserved t c).After-join) s.0 s.1 s.2
+
+pub rule_o-returns-in-None : goal.rule_o-returns-in-None
+unfolding joined plain opens
+rule_o-returns-in-None t c =
+    let w = rule_o-turn t (goal.at.rule_o-returns-in-None t c).After-join in
+    open_plain refl (λ vs. turn_ends w (c.look.ensures.nothing (c.in_ok-on.was ∙ ap (λ (o : Option State). Ok o) c.in-None.is)) vs)
+
+pub rule_a-loop-n-init : goal.rule_a-loop-n-init
+unfolding first rank
+rule_a-loop-n-init t c = reading_starts (grouping level.And) (ready_of c.requires.ready.tokens (omega arith)) c.requires.begun.seen (omega arith)
+
+pub rule_a-rule_c-requires : goal.rule_a-rule_c-requires
+unfolding first
+rule_a-rule_c-requires t c =
+    let i = c.loop-n.invariant in
+    (omega (arith, c.decreases, i.on), (i.ready, record { seen = i.seen }))
+
+-- an operand was read; and joined to what stands before it
+abbrev rule_a-operand : (t : ℕ) (c : rule_a-In_ok-n t) → Operand (grouping level.And)
+rule_a-operand t c = operand_read c.loop-n.invariant c.rule_c.ensures c.in_ok-n.was c.rule_c.auto.tree
+
+abbrev rule_a-turn : (t : ℕ) (c : rule_a-After-join t) → Turn (grouping level.And)
+rule_a-turn t c = record { of = operand_read c.loop-n.invariant c.rule_c.ensures c.in_ok-n.was c.rule_c.auto.tree; made = _; tr₂ = _; goes = goes level.And _ (c.join.ensures _); length = c.join.auto.tree }
+
+pub rule_a-returns-in_err-n : goal.rule_a-returns-in_err-n
+unfolding joined plain opens
+rule_a-returns-in_err-n t c = rw (handed_on _ c.from_residual.ensures.1) (open_plain refl (λ vs. reading_stops c.loop-n.invariant c.rule_c.ensures c.in_err-n.was vs))
+
+pub rule_a-join-requires : goal.rule_a-join-requires
+rule_a-join-requires t c =
+    let w = rule_a-operand t (goal.at.rule_a-join-requires t c).In_ok-n in
+    record { spot = operand_spot w; held = operand_held w }
+
+pub rule_a-look-requires-clause-at_bound : goal.rule_a-look-requires-clause-at_bound
+rule_a-look-requires-clause-at_bound t c =
+    let w = rule_a-turn t (goal.at.rule_a-look-requires-clause-at_bound t c).After-join in
+    turn_here w
+
+pub rule_a-returns-in_err-on : goal.rule_a-returns-in_err-on
+unfolding joined plain opens
+rule_a-returns-in_err-on t c =
+    let w = rule_a-turn t (goal.at.rule_a-returns-in_err-on t c).After-join in
+    let s = c.look.ensures.missing _ c.in_err-on.was in
+    rw (handed_on _ c.from_residual-in_err-on.ensures.1) (open_plain refl (λ vs. rw s.0 (turn_misses w refl s.1 s.2 vs)))
+
+pub rule_a-loop-n-smaller : goal.rule_a-loop-n-smaller
+rule_a-loop-n-smaller t c =
+    let w = rule_a-turn t (goal.at.rule_a-loop-n-smaller t c).After-join in
+    let s = c.look.ensures.operand _ (c.in_ok-on.was ∙ ap (λ (o : Option State). Ok o) c.in-Some.is) in
+    omega (arith, turn_less w s.0 s.1, (turn_goes w s.0 s.1 s.2).ready.here)
+
+pub rule_a-loop-n-preserved : goal.rule_a-loop-n-preserved
+rule_a-loop-n-preserved t c =
+    let s = c.look.ensures.operand _ (c.in_ok-on.was ∙ ap (λ (o : Option State). Ok o) c.in-Some.is) in
+    turn_goes (rule_a-turn t (goal.at.rule_a-loop-n-preserved t c).After-join) s.0 s.1 s.2
+
+pub rule_a-returns-in-None : goal.rule_a-returns-in-None
+unfolding joined plain opens
+rule_a-returns-in-None t c =
+    let w = rule_a-turn t (goal.at.rule_a-returns-in-None t c).After-join in
+    open_plain refl (λ vs. turn_ends w (c.look.ensures.nothing (c.in_ok-on.was ∙ ap (λ (o : Option State). Ok o) c.in-None.is)) vs)
+
+pub rule_s-loop-n-init : goal.rule_s-loop-n-init
+unfolding first rank
+rule_s-loop-n-init t c = reading_starts (grouping level.Sum) (ready_of c.requires.ready.tokens (omega arith)) c.requires.begun.seen (omega arith)
+
+pub rule_s-rule_p-requires : goal.rule_s-rule_p-requires
+unfolding first
+rule_s-rule_p-requires t c =
+    let i = c.loop-n.invariant in
+    (omega (arith, c.decreases, i.on), (i.ready, record { seen = i.seen }))
+
+-- an operand was read; and joined to what stands before it
+abbrev rule_s-operand : (t : ℕ) (c : rule_s-In_ok-n t) → Operand (grouping level.Sum)
+rule_s-operand t c = operand_read c.loop-n.invariant c.rule_p.ensures c.in_ok-n.was c.rule_p.auto.tree
+
+abbrev rule_s-turn : (t : ℕ) (c : rule_s-After-join t) → Turn (grouping level.Sum)
+rule_s-turn t c = record { of = operand_read c.loop-n.invariant c.rule_p.ensures c.in_ok-n.was c.rule_p.auto.tree; made = _; tr₂ = _; goes = goes level.Sum _ (c.join.ensures _); length = c.join.auto.tree }
+
+pub rule_s-returns-in_err-n : goal.rule_s-returns-in_err-n
+unfolding joined plain opens
+rule_s-returns-in_err-n t c = rw (handed_on _ c.from_residual.ensures.1) (open_plain refl (λ vs. reading_stops c.loop-n.invariant c.rule_p.ensures c.in_err-n.was vs))
+
+pub rule_s-join-requires : goal.rule_s-join-requires
+rule_s-join-requires t c =
+    let w = rule_s-operand t (goal.at.rule_s-join-requires t c).In_ok-n in
+    record { spot = operand_spot w; held = operand_held w }
+
+pub rule_s-look-requires-clause-at_bound : goal.rule_s-look-requires-clause-at_bound
+rule_s-look-requires-clause-at_bound t c =
+    let w = rule_s-turn t (goal.at.rule_s-look-requires-clause-at_bound t c).After-join in
+    turn_here w
+
+pub rule_s-returns-in_err-on : goal.rule_s-returns-in_err-on
+unfolding joined plain opens
+rule_s-returns-in_err-on t c =
+    let w = rule_s-turn t (goal.at.rule_s-returns-in_err-on t c).After-join in
+    let s = c.look.ensures.missing _ c.in_err-on.was in
+    rw (handed_on _ c.from_residual-in_err-on.ensures.1) (open_plain refl (λ vs. rw s.0 (turn_misses w refl s.1 s.2 vs)))
+
+pub rule_s-loop-n-smaller : goal.rule_s-loop-n-smaller
+rule_s-loop-n-smaller t c =
+    let w = rule_s-turn t (goal.at.rule_s-loop-n-smaller t c).After-join in
+    let s = c.look.ensures.operand _ (c.in_ok-on.was ∙ ap (λ (o : Option State). Ok o) c.in-Some.is) in
+    omega (arith, turn_less w s.0 s.1, (turn_goes w s.0 s.1 s.2).ready.here)
+
+pub rule_s-loop-n-preserved : goal.rule_s-loop-n-preserved
+rule_s-loop-n-preserved t c =
+    let s = c.look.ensures.operand _ (c.in_ok-on.was ∙ ap (λ (o : Option State). Ok o) c.in-Some.is) in
+    turn_goes (rule_s-turn t (goal.at.rule_s-loop-n-preserved t c).After-join) s.0 s.1 s.2
+
+pub rule_s-returns-in-None : goal.rule_s-returns-in-None
+unfolding joined plain opens
+rule_s-returns-in-None t c =
+    let w = rule_s-turn t (goal.at.rule_s-returns-in-None t c).After-join in
+    open_plain refl (λ vs. turn_ends w (c.look.ensures.nothing (c.in_ok-on.was ∙ ap (λ (o : Option State). Ok o) c.in-None.is)) vs)
+
+pub rule_p-loop-n-init : goal.rule_p-loop-n-init
+unfolding first rank
+rule_p-loop-n-init t c = reading_starts (grouping level.Product) (ready_of c.requires.ready.tokens (omega arith)) c.requires.begun.seen (omega arith)
+
+pub rule_p-rule_u-requires : goal.rule_p-rule_u-requires
+unfolding first
+rule_p-rule_u-requires t c =
+    let i = c.loop-n.invariant in
+    (omega (arith, c.decreases, i.on), (i.ready, record { seen = i.seen }))
+
+-- an operand was read; and joined to what stands before it
+abbrev rule_p-operand : (t : ℕ) (c : rule_p-In_ok-n t) → Operand (grouping level.Product)
+rule_p-operand t c = operand_read c.loop-n.invariant c.rule_u.ensures c.in_ok-n.was c.rule_u.auto.tree
+
+abbrev rule_p-turn : (t : ℕ) (c : rule_p-After-join t) → Turn (grouping level.Product)
+rule_p-turn t c = record { of = operand_read c.loop-n.invariant c.rule_u.ensures c.in_ok-n.was c.rule_u.auto.tree; made = _; tr₂ = _; goes = goes level.Product _ (c.join.ensures _); length = c.join.auto.tree }
+
+pub rule_p-returns-in_err-n : goal.rule_p-returns-in_err-n
+unfolding joined plain opens
+rule_p-returns-in_err-n t c = rw (handed_on _ c.from_residual.ensures.1) (open_plain refl (λ vs. reading_stops c.loop-n.invariant c.rule_u.ensures c.in_err-n.was vs))
+
+pub rule_p-join-requires : goal.rule_p-join-requires
+rule_p-join-requires t c =
+    let w = rule_p-operand t (goal.at.rule_p-join-requires t c).In_ok-n in
+    record { spot = operand_spot w; held = operand_held w }
+
+pub rule_p-look-requires-clause-at_bound : goal.rule_p-look-requires-clause-at_bound
+rule_p-look-requires-clause-at_bound t c =
+    let w = rule_p-turn t (goal.at.rule_p-look-requires-clause-at_bound t c).After-join in
+    turn_here w
+
+pub rule_p-returns-in_err-on : goal.rule_p-returns-in_err-on
+unfolding joined plain opens
+rule_p-returns-in_err-on t c =
+    let w = rule_p-turn t (goal.at.rule_p-returns-in_err-on t c).After-join in
+    let s = c.look.ensures.missing _ c.in_err-on.was in
+    rw (handed_on _ c.from_residual-in_err-on.ensures.1) (open_plain refl (λ vs. rw s.0 (turn_misses w refl s.1 s.2 vs)))
+
+pub rule_p-loop-n-smaller : goal.rule_p-loop-n-smaller
+rule_p-loop-n-smaller t c =
+    let w = rule_p-turn t (goal.at.rule_p-loop-n-smaller t c).After-join in
+    let s = c.look.ensures.operand _ (c.in_ok-on.was ∙ ap (λ (o : Option State). Ok o) c.in-Some.is) in
+    omega (arith, turn_less w s.0 s.1, (turn_goes w s.0 s.1 s.2).ready.here)
+
+pub rule_p-loop-n-preserved : goal.rule_p-loop-n-preserved
+rule_p-loop-n-preserved t c =
+    let s = c.look.ensures.operand _ (c.in_ok-on.was ∙ ap (λ (o : Option State). Ok o) c.in-Some.is) in
+    turn_goes (rule_p-turn t (goal.at.rule_p-loop-n-preserved t c).After-join) s.0 s.1 s.2
+
+pub rule_p-returns-in-None : goal.rule_p-returns-in-None
+unfolding joined plain opens
+rule_p-returns-in-None t c =
+    let w = rule_p-turn t (goal.at.rule_p-returns-in-None t c).After-join in
+    open_plain refl (λ vs. turn_ends w (c.look.ensures.nothing (c.in_ok-on.was ∙ ap (λ (o : Option State). Ok o) c.in-None.is)) vs)
+
+pub rule_c-loop-n-init : goal.rule_c-loop-n-init
+unfolding first rank
+rule_c-loop-n-init t c = reading_starts comparing (ready_of c.requires.ready.tokens (omega arith)) c.requires.begun.seen (omega arith)
+
+pub rule_c-rule_s-requires : goal.rule_c-rule_s-requires
+unfolding first
+rule_c-rule_s-requires t c =
+    let i = c.loop-n.invariant in
+    (omega (arith, c.decreases, i.on), (i.ready, record { seen = i.seen }))
+
+-- an operand was read; and joined to what stands before it
+abbrev rule_c-operand : (t : ℕ) (c : rule_c-In_ok-n t) → Operand (comparing)
+rule_c-operand t c = operand_read c.loop-n.invariant c.rule_s.ensures c.in_ok-n.was c.rule_s.auto.tree
+
+abbrev rule_c-turn : (t : ℕ) (c : rule_c-After-compare t) → Turn (comparing)
+rule_c-turn t c = record { of = operand_read c.loop-n.invariant c.rule_s.ensures c.in_ok-n.was c.rule_s.auto.tree; made = _; tr₂ = _; goes = comparing_goes _ (c.compare.ensures _); length = c.compare.auto.tree }
+
+pub rule_c-returns-in_err-n : goal.rule_c-returns-in_err-n
+unfolding joined plain opens
+rule_c-returns-in_err-n t c = rw (handed_on _ c.from_residual.ensures.1) (open_plain refl (λ vs. reading_stops c.loop-n.invariant c.rule_s.ensures c.in_err-n.was vs))
+
+pub rule_c-compare-requires : goal.rule_c-compare-requires
+rule_c-compare-requires t c =
+    let w = rule_c-operand t (goal.at.rule_c-compare-requires t c).In_ok-n in
+    record { spot = operand_next w; hung = operand_held w }
+
+pub rule_c-look-requires-clause-at_bound : goal.rule_c-look-requires-clause-at_bound
+rule_c-look-requires-clause-at_bound t c =
+    let w = rule_c-turn t (goal.at.rule_c-look-requires-clause-at_bound t c).After-compare in
+    turn_here w
+
+pub rule_c-returns-in_err-on : goal.rule_c-returns-in_err-on
+unfolding joined plain opens
+rule_c-returns-in_err-on t c =
+    let w = rule_c-turn t (goal.at.rule_c-returns-in_err-on t c).After-compare in
+    let s = c.look.ensures.missing _ c.in_err-on.was in
+    rw (handed_on _ c.from_residual-in_err-on.ensures.1) (open_plain refl (λ vs. rw s.0 (turn_misses w refl s.1 s.2 vs)))
+
+pub rule_c-loop-n-smaller : goal.rule_c-loop-n-smaller
+rule_c-loop-n-smaller t c =
+    let w = rule_c-turn t (goal.at.rule_c-loop-n-smaller t c).After-compare in
+    let s = c.look.ensures.operand _ (c.in_ok-on.was ∙ ap (λ (o : Option State). Ok o) c.in-Some.is) in
+    omega (arith, turn_less w s.0 s.1, (turn_goes w s.0 s.1 s.2).ready.here)
+
+pub rule_c-loop-n-preserved : goal.rule_c-loop-n-preserved
+rule_c-loop-n-preserved t c =
+    let s = c.look.ensures.operand _ (c.in_ok-on.was ∙ ap (λ (o : Option State). Ok o) c.in-Some.is) in
+    rw c.lengthen-before.ensures (turn_goes (rule_c-turn t (goal.at.rule_c-loop-n-preserved t c).After-compare) s.0 s.1 s.2)
+
+pub rule_c-returns-in-None : goal.rule_c-returns-in-None
+unfolding joined plain opens
+rule_c-returns-in-None t c =
+    let w = rule_c-turn t (goal.at.rule_c-returns-in-None t c).After-compare in
+    open_plain refl (λ vs. turn_ends w (c.look.ensures.nothing (c.in_ok-on.was ∙ ap (λ (o : Option State). Ok o) c.in-None.is)) vs)
+
+pub rule_u-returns-then-not-behind_signs : goal.rule_u-returns-then-not-behind_signs
+unfolding joined plain first opens
+rule_u-returns-then-not-behind_signs t c =
+    let r = c.requires.ready in
+    let k = c.skip_signs-end.ensures in
+    let e = sym c.behind_signs.ensures ∙ c.if-not-behind_signs.true in
+    open_plain refl (λ vs. signs_then (signs_pass k (part_stop _ (not_called k.inside (r.used ∙ sym (run_text sign_set refl refl r.tokens k)) e refl) refl)))

@@ -108,17 +108,11 @@ invariant-posts-loop-tree l = Going l.src l.toks 2 l.left (many postfix) (node l
 abbrev pub decreases-posts-loop-tree : goal.decreases-posts-loop-tree
 decreases-posts-loop-tree l = eof_at l.toks - l.st.at.0
 
-abbrev pub invariant-rest-loop-on : goal.invariant-rest-loop-on
-invariant-rest-loop-on l = Listing l.src l.toks l.left (others l.paired) l.first.0 l.initial.last.0 l.initial.st l.initial.tree l.last.0 l.st l.tree
+abbrev pub invariant-rest-loop-last : goal.invariant-rest-loop-last
+invariant-rest-loop-last l = Listing l.src l.toks l.left (others l.paired) l.first.0 l.initial.last.0 l.initial.st l.initial.tree l.last.0 l.st l.tree
 
-abbrev pub decreases-rest-loop-on : goal.decreases-rest-loop-on
-decreases-rest-loop-on l = eof_at l.toks - l.st.at.0
-
-abbrev pub invariant-rule_a-loop-n : goal.invariant-rule_a-loop-n
-invariant-rule_a-loop-n l = Reading (grouping level.And) l.src l.toks l.left 6 l.initial.st l.initial.tree l.before l.st l.tree
-
-abbrev pub decreases-rule_a-loop-n : goal.decreases-rule_a-loop-n
-decreases-rule_a-loop-n l = eof_at l.toks - l.st.at.0
+abbrev pub decreases-rest-loop-last : goal.decreases-rest-loop-last
+decreases-rest-loop-last l = eof_at l.toks - l.st.at.0
 
 abbrev pub invariant-rule_c-loop-n : goal.invariant-rule_c-loop-n
 invariant-rule_c-loop-n l = Reading comparing l.src l.toks l.left 7 l.initial.st l.initial.tree l.before l.st l.tree
@@ -132,14 +126,20 @@ invariant-rule_o-loop-n l = Reading (grouping level.Or) l.src l.toks l.left 5 l.
 abbrev pub decreases-rule_o-loop-n : goal.decreases-rule_o-loop-n
 decreases-rule_o-loop-n l = eof_at l.toks - l.st.at.0
 
-abbrev pub invariant-rule_p-loop-n : goal.invariant-rule_p-loop-n
-invariant-rule_p-loop-n l = Reading (grouping level.Product) l.src l.toks l.left 9 l.initial.st l.initial.tree l.before l.st l.tree
+abbrev pub invariant-rule_a-loop-n : goal.invariant-rule_a-loop-n
+invariant-rule_a-loop-n l = Reading (grouping level.And) l.src l.toks l.left 6 l.initial.st l.initial.tree l.before l.st l.tree
 
-abbrev pub decreases-rule_p-loop-n : goal.decreases-rule_p-loop-n
-decreases-rule_p-loop-n l = eof_at l.toks - l.st.at.0
+abbrev pub decreases-rule_a-loop-n : goal.decreases-rule_a-loop-n
+decreases-rule_a-loop-n l = eof_at l.toks - l.st.at.0
 
 abbrev pub invariant-rule_s-loop-n : goal.invariant-rule_s-loop-n
 invariant-rule_s-loop-n l = Reading (grouping level.Sum) l.src l.toks l.left 8 l.initial.st l.initial.tree l.before l.st l.tree
 
 abbrev pub decreases-rule_s-loop-n : goal.decreases-rule_s-loop-n
 decreases-rule_s-loop-n l = eof_at l.toks - l.st.at.0
+
+abbrev pub invariant-rule_p-loop-n : goal.invariant-rule_p-loop-n
+invariant-rule_p-loop-n l = Reading (grouping level.Product) l.src l.toks l.left 9 l.initial.st l.initial.tree l.before l.st l.tree
+
+abbrev pub decreases-rule_p-loop-n : goal.decreases-rule_p-loop-n
+decreases-rule_p-loop-n l = eof_at l.toks - l.st.at.0

@@ -7,16 +7,16 @@ pub put_binary-requires : goal.put_binary-requires
 put_binary-requires c =
     record { spot = spot_less c.requires.spot; op_lt_at = c.requires.hung.first _ _ c.in-First.is }
 
-pub put_binary-made-requires : goal.put_binary-made-requires
-put_binary-made-requires c =
+pub put_binary-requires-in-Further : goal.put_binary-requires-in-Further
+put_binary-requires-in-Further c =
     let h = c.requires.hung.further _ _ _ c.in-Further.is in
     record { spot = spot_less c.requires.spot; op_lt_at = (h.0, h.2) }
 
 pub put_and-requires : goal.put_and-requires
 put_and-requires c =
     let h = c.requires.hung.further _ _ _ c.in-Further.is in
-    let w = c.put_binary-made.ensures c.args.toks.now in
-    let k = c.put_binary-made.auto.tree in
+    let w = c.put_binary-in-Further.ensures c.args.toks.now in
+    let k = c.put_binary-in-Further.auto.tree in
     let p = c.requires.spot in
     record { spot = rw w.after (record { some = omega arith; token = omega arith; last = omega arith; word = omega (arith, k, p.word); count = omega arith }); l_lt_nodes = rw w.after (omega (arith, h.1)) }
 
@@ -29,8 +29,8 @@ returns-in-First c =
 
 pub shape_of-tree-in-Further : goal.shape_of-tree-in-Further
 shape_of-tree-in-Further c =
-    omega (arith, c.put_and.auto.tree, c.put_binary-made.auto.tree)
+    omega (arith, c.put_and.auto.tree, c.put_binary-in-Further.auto.tree)
 
 pub returns-in-Further : goal.returns-in-Further
 returns-in-Further c =
-    λ src. rw c.in-Further.is (compared_further (c.put_binary-made.ensures src) (c.put_and.ensures src))
+    λ src. rw c.in-Further.is (compared_further (c.put_binary-in-Further.ensures src) (c.put_and.ensures src))

@@ -4,21 +4,11 @@ use Rattle.joint.proofs.Choices.{starts, or_first, or_next, or_neither}
 use Rattle.lookahead.proofs.Tests.{coded, not_first}
 use Rattle.grammar.specs.Descent.{null, begins}
 use Rattle.token.specs.Code as code
-use native.Mathlib.Omega.{arith}
 use mathlib.Core.Path.{refl}
 use mathlib.Core.List.{[], ◌∷◌}
+use native.Mathlib.Omega.{arith}
 use Rattle.joint.proofs.Taken.{taken}
 use Rattle.simple.proofs.line_end.Goals as goal
-
-pub symbol_at-requires : goal.symbol_at-requires
-symbol_at-requires c =
-    record { tokens = c.requires.tokens; at_bound = c.requires.at_bound.0 }
-
-pub past-requires : goal.past-requires
-past-requires c =
-    let r = c.requires.tokens in
-    let h = c.requires.at_bound.0 in
-    omega arith
 
 pub returns-in-48 : goal.returns-in-48
 unfolding begins null
@@ -37,4 +27,4 @@ pub returns-in_default : goal.returns-in_default
 unfolding begins null
 returns-in_default c =
     let h = c.requires.at_bound.0 in
-    λ room tr. record { comes = λ vs. or_neither h c.requires.at_bound.1 (not_first 48 [] c.symbol_at.ensures c.in_default.in_default-own.rest.0.1) refl (not_first 49 [] c.symbol_at.ensures c.in_default.in_default-own.rest.1) refl }
+    λ room tr. record { comes = λ vs. or_neither h c.requires.at_bound.1 (not_first 48 [] c.symbol_at.ensures (omega arith)) refl (not_first 49 [] c.symbol_at.ensures (omega arith)) refl }

@@ -4,11 +4,8 @@ use Rattle.joint.proofs.Ends.{act_wrote}
 use mathlib.Core.List.{[]}
 use Rattle.simple.proofs.word.Goals as goal
 
-pub put_alone-made-requires : goal.put_alone-made-requires
-put_alone-made-requires c =
-    c.requires
+pub returns-clause-by_index : goal.returns-clause-by_index
+returns-clause-by_index c = λ src room u. record { comes = λ vs. act_wrote u (c.put_alone.ensures src) }
 
-pub returns : goal.returns
-returns c =
-    let w = c.put_alone-made.ensures in
-    record { by_index = λ src room u. record { comes = λ vs. act_wrote u (w src) }; newest = newest_wrote (w []) }
+pub returns-clause-newest : goal.returns-clause-newest
+returns-clause-newest c = newest_wrote (c.put_alone.ensures [])

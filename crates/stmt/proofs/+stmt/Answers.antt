@@ -1,58 +1,52 @@
 use Prim.Native.Nat.{ℕ}
-use Rattle.joint.proofs.Ends.{act_wrote, one_then, done_then, tok_mark, none_last, changed_then, wrote_then, list_last}
-use Rattle.simple.proofs.Newest.{newest_wrote, newest_refused}
+use mathlib.Core.Path.{refl, ◌≡◌, ◌∙◌}
+use mathlib.Core.Bool.{true, false}
 use mathlib.Core.List.{[], ◌∷◌, List}
 use native.Mathlib.Omega.{arith}
-use Rattle.pyhyeon.specs.Tables.{first, rank, first_line, joined, opens, first_simple}
-use Rattle.lookahead.proofs.Tests.{learnt, coded, not_first, of_second}
-use Rattle.joint.proofs.Chain.{called, no_call, part_then, part_stop, tok_then, tok_not, flat, flat_then, flat_stop, not_called, open_deep, open_room, open_plain}
-use mathlib.Core.Path.{refl, ◌≡◌, ◌∙◌}
-use Rattle.stmt.proofs.Branches.{modest_elifs, modest_else, taking_elif}
-use Rattle.joint.proofs.Loops.{ready_of, begin_list, lists_node, lists_stop}
-use Rattle.joint.proofs.Counts.{passed_start, passed_node, came_start, came_node, Came, came_call, pays_block, came_growing}
-use Rattle.joint.proofs.Taken.{Taken, ready_tested, next_tested, taken_ready, taken_tested}
-use Rattle.stmt.proofs.Classes.{modest_method}
-use Rattle.pyhyeon.specs.Rules.{names, plain}
-use Rattle.leaves.specs.Contract.{past, a_node, a_growing}
-use Rattle.stmt.proofs.Members.{rest_last, came_member, others_on, others_stop, others_end}
-use Rattle.stmt.specs.Parts.{elif_on, leading}
-use Rattle.joint.proofs.Choices.{absent, or_first, or_next, or_last, starts, alt_first, alt_next}
-use Rattle.grammar.specs.Descent.{null, begins}
-use Rattle.lookahead.specs.Tokens.{symbol_at}
 use Rattle.grammar.specs.Sets.{mem}
-use mathlib.Core.Bool.{true, false}
-use Rattle.joint.proofs.Bounds.{Went, after_list, after_call, spares_e}
-use Rattle.expr.proofs.Low.{modest_parameters}
-use Rattle.stmt.proofs.Guards.{guards_both, guards_stop}
-use Rattle.stmt.proofs.Blocks.{modest_inside, item, lines_stop, lines_came, lines_room, lines_held, lines_end, lines_goes, list_through, one_through}
-use Rattle.joint.proofs.Passing.{newlines_pass, run_text}
-use Rattle.simple.proofs.Gathering.{gathering_starts}
+use Rattle.grammar.specs.Descent.{null, begins}
 use Rattle.token.specs.Code as code
-use Rattle.stmt.proofs.+stmt.Goals.{class_body-Then-is_symbol, each-Then-is_name, each-Then-is_symbol, elifs-Then-is_symbol, further-In-Node, further-Then-leads, given-After-names-heads, given-Then-is_symbol, indented-Then-is_symbol, lines-In-Node, method-Then-is_symbol, named-Then-is_name, named-Then-is_symbol, other-Then-is_symbol, rule_block-Start, rule_block-Then-is_symbol, rule_class-Start, rule_class-Then-is_name, rule_line-After-symbol_at, suite-Then-is_symbol, suite-Then-is_symbol-2}
+use Rattle.pyhyeon.specs.Rules.{names, plain}
+use Rattle.pyhyeon.specs.Tables.{first, rank, first_line, joined, opens, first_simple}
+use Rattle.lookahead.specs.Tokens.{symbol_at}
+use Rattle.lookahead.proofs.Tests.{learnt, coded, not_first, of_second}
+use Rattle.leaves.specs.Contract.{past, a_node, a_list, a_growing}
+use Rattle.joint.proofs.Bounds.{Went, after_list}
+use Rattle.joint.proofs.Chain.{handed_on, called, no_call, part_then, part_stop, tok_then, flat, flat_then, flat_stop, not_called, open_deep, open_room, open_plain}
+use Rattle.joint.proofs.Choices.{absent, or_first, or_next, or_last, starts, alt_first, alt_next}
+use Rattle.joint.proofs.Counts.{passed_start, passed_node, came_start, came_node, Came, Passed, came_call, pays_block, came_growing}
+use Rattle.joint.proofs.Ends.{act_wrote, one_then, done_then, tok_mark, none_last, changed_then, wrote_then, list_last}
+use Rattle.joint.proofs.Loops.{ready_of, lists_done, lists_node, lists_stop}
+use Rattle.joint.proofs.Passing.{newlines_pass, run_text}
+use Rattle.joint.proofs.Taken.{Taken, ready_tested, next_tested, taken_ready}
+use Rattle.expr.proofs.Low.{modest_parameters}
+use Rattle.expr.proofs.Read.{after_enter}
+use Rattle.simple.proofs.Gathering.{gathering_starts}
+use Rattle.simple.proofs.Newest.{newest_wrote}
+use Rattle.stmt.specs.Parts.{elif_on, leading}
+use Rattle.stmt.proofs.Blocks.{modest_inside, item, lines_stop, lines_came, lines_room, lines_held, lines_end, lines_goes, list_through, one_through}
+use Rattle.stmt.proofs.Branches.{modest_elifs, modest_else, taking_elif}
+use Rattle.stmt.proofs.Classes.{modest_method}
+use Rattle.stmt.proofs.Guards.{guards_both, guards_stop}
+use Rattle.stmt.proofs.Members.{came_member, others_on, others_stop, others_end}
+use Rattle.stmt.proofs.Taking.{Stepped, stepped, stepped_ready, stepped_next, opened_past, step_then, step_mark, step_end, step_not, step_no}
 use Rattle.stmt.proofs.+stmt.Goals as goal
+use Rattle.stmt.proofs.+stmt.Goals.{class_body-In_ok-done, class_body-In_ok-on, cond-In_ok-last, cond-In_ok-more, each-In_ok-named, each-In_ok-on, elifs-Then-is_symbol, further-In_ok-n, indented-In_ok-first, indented-In_ok-on, lines-In_ok-n, method-In_ok-on, named-After-names, named-In_ok-named, named-In_ok-on, named-In_ok-shut, other-Then-is_symbol, rule_block-Start, rule_block-Then-is_symbol, rule_class-In_ok-colon, rule_class-In_ok-named, rule_class-In_ok-on, rule_class-Start, rule_line-After-symbol_at}
 
-pub again-guarded-head-requires : goal.again-guarded-head-requires
-again-guarded-head-requires t c =
-    (omega arith, c.requires.ready)
-
-pub again-put_while-made-requires : goal.again-put_while-made-requires
-again-put_while-made-requires t c =
-    let g = c.guarded-head.ensures.leads c.in-Both.is in
+pub again-put_while-requires : goal.again-put_while-requires
+again-put_while-requires t c =
+    let g = c.guarded.ensures.leads c.in_ok-test.was in
     record { spot = omega arith; keyword_lt_at = omega arith }
 
-pub again-returns-in-Both : goal.again-returns-in-Both
-again-returns-in-Both t c =
-    let g = c.guarded-head.ensures.leads c.in-Both.is in
-    let w = c.put_while-made.ensures in
+pub again-returns-in_err-test-clause-parts : goal.again-returns-in_err-test-clause-parts
+again-returns-in_err-test-clause-parts t c =
+    rw (handed_on _ c.from_residual.ensures.1) (record { comes = λ vs. c.guarded.ensures.stops c.in_err-test.was })
+
+pub again-returns : goal.again-returns
+again-returns t c =
+    let g = c.guarded.ensures.leads c.in_ok-test.was in
+    let w = c.put_while.ensures in
     record { parts = record { comes = λ vs. g.same (act_wrote g.ready.used (w _)) }; newest = newest_wrote (w []) }
-
-pub again-returns-in-Refused : goal.again-returns-in-Refused
-again-returns-in-Refused t c =
-    record { parts = record { comes = λ vs. c.guarded-head.ensures.stops c.in-Refused.is }; newest = newest_refused }
-
-pub block-symbol_at-requires : goal.block-symbol_at-requires
-block-symbol_at-requires t c =
-    record { tokens = c.requires.tokens; at_bound = c.requires.here }
 
 pub block-rule_block-requires : goal.block-rule_block-requires
 unfolding first
@@ -63,227 +57,223 @@ block-rule_block-requires t c =
 pub block-returns-then-is_symbol : goal.block-returns-then-is_symbol
 unfolding first
 block-returns-then-is_symbol t c =
-    let r = c.requires in
     let e = learnt (code.Colon ∷ []) c.if-is_symbol.true c.is_symbol.ensures c.symbol_at.ensures in
-    called r.here e c.rule_block.ensures
+    called c.requires.here e c.rule_block.ensures
 
 pub block-returns-else-is_symbol : goal.block-returns-else-is_symbol
 unfolding first
 block-returns-else-is_symbol t c =
-    let r = c.requires in
     let e = learnt (code.Colon ∷ []) c.if-is_symbol.false c.is_symbol.ensures c.symbol_at.ensures in
-    no_call r.here r.used e refl
+    no_call c.requires.here c.requires.used e refl
 
-pub branch-elifs-rest-requires : goal.branch-elifs-rest-requires
-branch-elifs-rest-requires t c =
-    (omega arith, c.requires.ready)
+-- where Indent stands, and what is known behind the first Method and at the Dedent
+class_body-indent : (t : ℕ) (c : class_body-In_ok-on t) → Stepped c.args.src.now c.args.toks.now (code.Indent ∷ []) c.args.s c.in_ok-on.on
+class_body-indent t c = stepped_ready (code.Indent ∷ []) refl refl c.requires.ready c.take.ensures c.in_ok-on.was
 
-pub branch-other-last-requires : goal.branch-other-last-requires
-branch-other-last-requires t c =
+class_body-dedent : (t : ℕ) (c : class_body-In_ok-done t) → Stepped c.args.src.now c.args.toks.now (code.Dedent ∷ []) c.in_ok-first.field-0.1 c.in_ok-done.done
+class_body-dedent t c = stepped_ready (code.Dedent ∷ []) refl refl (c.further.ensures.leads _ _ c.in_ok-first.was).ready c.take-2.ensures c.in_ok-done.was
+
+pub class_body-returns-in_err-on-clause-parts : goal.class_body-returns-in_err-on-clause-parts
+class_body-returns-in_err-on-clause-parts t c =
     let r = c.requires.ready in
-    let g = passed_start _ _ r.tokens modest_elifs r.here c.elifs-rest.ensures c.in-Node.is in
+    rw (handed_on _ c.from_residual.ensures.1) (record { comes = λ vs. step_not r.here r.used c.take.ensures c.in_err-on.was refl })
+
+pub class_body-method-requires : goal.class_body-method-requires
+class_body-method-requires t c =
+    let r = c.requires.ready in
+    let e = class_body-indent t (goal.at.class_body-method-requires t c).In_ok-on in
     (omega arith, ready_of r.tokens (omega arith))
 
-pub branch-put_if-made-requires : goal.branch-put_if-made-requires
-branch-put_if-made-requires t c =
+pub class_body-returns-in_err-n-clause-parts : goal.class_body-returns-in_err-n-clause-parts
+class_body-returns-in_err-n-clause-parts t c =
+    let e = class_body-indent t (goal.at.class_body-returns-in_err-n-clause-parts t c).In_ok-on in
+    rw (handed_on _ c.from_residual-in_err-n.ensures.1) (record { comes = λ vs. step_then e (part_stop _ c.method.ensures c.in_err-n.was) })
+
+pub class_body-further-requires : goal.class_body-further-requires
+class_body-further-requires t c =
     let r = c.requires.ready in
-    let g = passed_start _ _ r.tokens modest_elifs r.here c.elifs-rest.ensures c.in-Node.is in
-    let h = passed_start _ _ r.tokens modest_else g.here c.other-last.ensures c.in-Node-last.is in
-    let k = c.elifs-rest.auto.tree in
-    record { spot = omega arith; keyword_lt_at = omega arith }
-
-pub branch-returns-in-Node-last : goal.branch-returns-in-Node-last
-branch-returns-in-Node-last t c =
-    let r = c.requires.ready in
-    let g = passed_start _ _ r.tokens modest_elifs r.here c.elifs-rest.ensures c.in-Node.is in
-    let h = passed_start _ _ r.tokens modest_else g.here c.other-last.ensures c.in-Node-last.is in
-    let w = c.put_if-made.ensures in
-    record { parts = record { comes = λ vs. part_then c.elifs-rest.ensures c.in-Node.is (part_then c.other-last.ensures c.in-Node-last.is (act_wrote h.used (w _))) }; newest = newest_wrote (w []) }
-
-pub branch-returns-in-Refused-last : goal.branch-returns-in-Refused-last
-branch-returns-in-Refused-last t c =
-    record { parts = record { comes = λ vs. part_then c.elifs-rest.ensures c.in-Node.is (part_stop _ c.other-last.ensures c.in-Refused-last.is) }; newest = newest_refused }
-
-pub branch-returns-in-Refused : goal.branch-returns-in-Refused
-branch-returns-in-Refused t c =
-    record { parts = record { comes = λ vs. part_stop _ c.elifs-rest.ensures c.in-Refused.is }; newest = newest_refused }
-
--- where Indent stands
-class_body-indent : (t : ℕ) (c : class_body-Then-is_symbol t) → Taken c.args.src.now c.args.toks.now (code.Indent ∷ []) c.args.s
-class_body-indent t c =
-    ready_tested (code.Indent ∷ []) refl refl c.requires.ready c.if-is_symbol.true c.is_symbol.ensures c.symbol_at.ensures
-
-pub class_body-symbol_at-requires : goal.class_body-symbol_at-requires
-class_body-symbol_at-requires t c =
-    let r = c.requires.ready in
-    record { tokens = r.tokens; at_bound = r.here }
-
-pub class_body-method-one-requires : goal.class_body-method-one-requires
-class_body-method-one-requires t c =
-    let r = c.requires.ready in
-    let e = class_body-indent t (goal.at.class_body-method-one-requires t c).Then-is_symbol in
-    rw c.past.ensures (omega arith, ready_of r.tokens (omega arith))
-
-pub class_body-further-rest-requires : goal.class_body-further-rest-requires
-class_body-further-rest-requires t c =
-    let x = rw c.past.ensures at c.method-one.ensures in
-    let r = c.requires.ready in
-    let e = class_body-indent t (goal.at.class_body-further-rest-requires t c).Then-is_symbol in
-    let g = passed_start _ _ r.tokens modest_method e.inside x c.in-Node.is in
-    let k = c.method-one.auto.tree in
+    let e = class_body-indent t (goal.at.class_body-further-requires t c).In_ok-on in
+    let g = passed_start _ _ r.tokens modest_method e.inside c.method.ensures c.in_ok-n.was in
+    let k = c.method.auto.tree in
     (omega arith, (ready_of r.tokens (omega arith), passed_node g))
 
-pub class_body-class_end-requires : goal.class_body-class_end-requires
-class_body-class_end-requires t c =
-    let x = rw c.past.ensures at c.method-one.ensures in
+pub class_body-returns-in_err-first-clause-parts : goal.class_body-returns-in_err-first-clause-parts
+class_body-returns-in_err-first-clause-parts t c =
+    let e = class_body-indent t (goal.at.class_body-returns-in_err-first-clause-parts t c).In_ok-on in
+    rw (handed_on _ c.from_residual-in_err-first.ensures.1) (record { comes = λ vs. step_then e (part_then c.method.ensures c.in_ok-n.was (one_then (c.further.ensures.stops _ _ _ c.in_err-first.was _ _ _))) })
+
+pub class_body-take-requires-2-clause-at_bound : goal.class_body-take-requires-2-clause-at_bound
+class_body-take-requires-2-clause-at_bound t c = (c.further.ensures.leads _ _ c.in_ok-first.was).ready.here
+
+pub class_body-returns-in_err-done-clause-parts : goal.class_body-returns-in_err-done-clause-parts
+class_body-returns-in_err-done-clause-parts t c =
+    let e = class_body-indent t (goal.at.class_body-returns-in_err-done-clause-parts t c).In_ok-on in
+    let d = c.further.ensures.leads _ _ c.in_ok-first.was in
+    rw (handed_on _ c.from_residual-in_err-done.ensures.1) (record { comes = λ vs. step_then e (part_then c.method.ensures c.in_ok-n.was (one_then (d.same _ _ _ _ (done_then (step_not d.ready.here d.ready.used c.take-2.ensures c.in_err-done.was refl))))) })
+
+pub class_body-put_class-requires : goal.class_body-put_class-requires
+class_body-put_class-requires t c =
     let p = c.requires.keyword_lt_at in
-    let e = class_body-indent t (goal.at.class_body-class_end-requires t c).Then-is_symbol in
-    let g = passed_start _ _ e.tokens modest_method e.inside x c.in-Node.is in
-    let d = c.further-rest.ensures.leads _ _ c.in-Node-rest.is in
-    record { ready = d.ready; keyword_lt_at = omega (arith, p.0, p.1, g.on, d.on) }
+    let e = class_body-indent t (goal.at.class_body-put_class-requires t c).In_ok-on in
+    let g = passed_start _ _ e.tokens modest_method e.inside c.method.ensures c.in_ok-n.was in
+    let d = c.further.ensures.leads _ _ c.in_ok-first.was in
+    let f = class_body-dedent t (goal.at.class_body-put_class-requires t c).In_ok-done in
+    record { spot = omega arith; keyword_lt_at = omega arith }
 
-pub class_body-returns-in-Node-rest : goal.class_body-returns-in-Node-rest
-class_body-returns-in-Node-rest t c =
-    let x = rw c.past.ensures at c.method-one.ensures in
-    let e = class_body-indent t (goal.at.class_body-returns-in-Node-rest t c).Then-is_symbol in
-    let d = c.further-rest.ensures.leads _ _ c.in-Node-rest.is in
-    record { parts = record { comes = λ vs. tok_then e.here e.seen (part_then x c.in-Node.is (one_then (d.same _ _ _ _ (done_then ((c.class_end.ensures.by_index _).comes vs))))) }; newest = c.class_end.ensures.newest }
+pub class_body-returns : goal.class_body-returns
+class_body-returns t c =
+    let e = class_body-indent t (goal.at.class_body-returns t c).In_ok-on in
+    let d = c.further.ensures.leads _ _ c.in_ok-first.was in
+    let f = class_body-dedent t (goal.at.class_body-returns t c).In_ok-done in
+    let w = c.put_class.ensures in
+    record { parts = record { comes = λ vs. step_then e (part_then c.method.ensures c.in_ok-n.was (one_then (d.same _ _ _ _ (done_then (step_then f (act_wrote f.used (w _))))))) }; newest = newest_wrote (w []) }
 
-pub class_body-returns-in-Refused-rest : goal.class_body-returns-in-Refused-rest
-class_body-returns-in-Refused-rest t c =
-    let x = rw c.past.ensures at c.method-one.ensures in
-    let e = class_body-indent t (goal.at.class_body-returns-in-Refused-rest t c).Then-is_symbol in
-    record { parts = record { comes = λ vs. tok_then e.here e.seen (part_then x c.in-Node.is (one_then (c.further-rest.ensures.stops _ _ _ c.in-Refused-rest.is _ _ _))) }; newest = newest_refused }
+-- what is known behind the Elifs, and behind the Else
+cond-elifs : (t : ℕ) (c : cond-In_ok-more t) → Passed c.args.src.now c.args.toks.now a_list c.in_ok-test.field-0.2 c.in_ok-more.field-0.0 c.in_ok-more.field-0.1
+cond-elifs t c =
+    let g = c.guarded.ensures.leads c.in_ok-test.was in
+    passed_start _ _ g.ready.tokens modest_elifs g.ready.here c.elifs.ensures c.in_ok-more.was
 
-pub class_body-returns-in-Refused : goal.class_body-returns-in-Refused
-class_body-returns-in-Refused t c =
-    let x = rw c.past.ensures at c.method-one.ensures in
-    let e = class_body-indent t (goal.at.class_body-returns-in-Refused t c).Then-is_symbol in
-    record { parts = record { comes = λ vs. tok_then e.here e.seen (part_stop _ x c.in-Refused.is) }; newest = newest_refused }
+cond-else : (t : ℕ) (c : cond-In_ok-last t) → Passed c.args.src.now c.args.toks.now a_list c.in_ok-test.field-0.2 c.in_ok-more.field-0.0 c.in_ok-more.field-0.1 → Passed c.args.src.now c.args.toks.now a_list c.in_ok-more.field-0.1 c.in_ok-last.field-0.0 c.in_ok-last.field-0.1
+cond-else t c h =
+    let g = c.guarded.ensures.leads c.in_ok-test.was in
+    passed_start _ _ g.ready.tokens modest_else h.here c.other.ensures c.in_ok-last.was
 
-pub class_body-returns-else-is_symbol : goal.class_body-returns-else-is_symbol
-class_body-returns-else-is_symbol t c =
-    let r = c.requires.ready in
-    let e = learnt (code.Indent ∷ []) c.if-is_symbol.false c.is_symbol.ensures c.symbol_at.ensures in
-    record { parts = record { comes = λ vs. tok_not r.here r.used e refl }; newest = newest_refused }
+pub cond-returns-in_err-test-clause-parts : goal.cond-returns-in_err-test-clause-parts
+cond-returns-in_err-test-clause-parts t c =
+    rw (handed_on _ c.from_residual.ensures.1) (record { comes = λ vs. c.guarded.ensures.stops c.in_err-test.was })
 
-pub cond-guarded-head-requires : goal.cond-guarded-head-requires
-cond-guarded-head-requires t c =
-    (omega arith, c.requires.ready)
+pub cond-elifs-requires : goal.cond-elifs-requires
+cond-elifs-requires t c =
+    let g = c.guarded.ensures.leads c.in_ok-test.was in
+    (omega arith, g.ready)
 
-pub cond-branch-src-requires : goal.cond-branch-src-requires
-cond-branch-src-requires t c =
-    let g = c.guarded-head.ensures.leads c.in-Both.is in
-    (omega arith, (g.ready, omega arith))
+pub cond-returns-in_err-more-clause-parts : goal.cond-returns-in_err-more-clause-parts
+cond-returns-in_err-more-clause-parts t c =
+    let g = c.guarded.ensures.leads c.in_ok-test.was in
+    rw (handed_on _ c.from_residual-in_err-more.ensures.1) (record { comes = λ vs. g.same (part_stop _ c.elifs.ensures c.in_err-more.was) })
 
-pub cond-returns-in-Both : goal.cond-returns-in-Both
-cond-returns-in-Both t c =
-    let g = c.guarded-head.ensures.leads c.in-Both.is in
-    let b = c.branch-src.ensures in
-    record { parts = record { comes = λ vs. g.same (b.parts.comes vs) }; newest = b.newest }
+pub cond-other-requires : goal.cond-other-requires
+cond-other-requires t c =
+    let g = c.guarded.ensures.leads c.in_ok-test.was in
+    let h = cond-elifs t (goal.at.cond-other-requires t c).In_ok-more in
+    let k = c.elifs.auto.tree in
+    (omega arith, ready_of g.ready.tokens (omega arith))
 
-pub cond-returns-in-Refused : goal.cond-returns-in-Refused
-cond-returns-in-Refused t c =
-    record { parts = record { comes = λ vs. c.guarded-head.ensures.stops c.in-Refused.is }; newest = newest_refused }
+pub cond-returns-in_err-last-clause-parts : goal.cond-returns-in_err-last-clause-parts
+cond-returns-in_err-last-clause-parts t c =
+    let g = c.guarded.ensures.leads c.in_ok-test.was in
+    rw (handed_on _ c.from_residual-in_err-last.ensures.1) (record { comes = λ vs. g.same (part_then c.elifs.ensures c.in_ok-more.was (part_stop _ c.other.ensures c.in_err-last.was)) })
+
+pub cond-put_if-requires : goal.cond-put_if-requires
+cond-put_if-requires t c =
+    let g = c.guarded.ensures.leads c.in_ok-test.was in
+    let h = cond-elifs t (goal.at.cond-put_if-requires t c).In_ok-more in
+    let i = cond-else t (goal.at.cond-put_if-requires t c).In_ok-last h in
+    let k = c.elifs.auto.tree in
+    let l = c.other.auto.tree in
+    record { spot = omega arith; keyword_lt_at = omega arith }
+
+pub cond-returns : goal.cond-returns
+cond-returns t c =
+    let g = c.guarded.ensures.leads c.in_ok-test.was in
+    let i = cond-else t (goal.at.cond-returns t c).In_ok-last (cond-elifs t (goal.at.cond-returns t c).In_ok-more) in
+    let w = c.put_if.ensures in
+    record { parts = record { comes = λ vs. g.same (part_then c.elifs.ensures c.in_ok-more.was (part_then c.other.ensures c.in_ok-last.was (act_wrote i.used (w _)))) }; newest = newest_wrote (w []) }
 
 -- where the name stands, and `in` behind it
-each-name : (t : ℕ) (c : each-Then-is_name t) → Taken c.args.src.now c.args.toks.now names c.args.s
-each-name t c =
-    ready_tested names refl refl c.requires.ready c.if-is_name.true c.is_name.ensures c.symbol_at.ensures
+each-name : (t : ℕ) (c : each-In_ok-named t) → Stepped c.args.src.now c.args.toks.now names c.args.s c.in_ok-named.named
+each-name t c = stepped_ready names refl refl c.requires.ready c.take_name.ensures c.in_ok-named.was
 
-each-in-it : (t : ℕ) (c : each-Then-is_symbol t) (name : Taken c.args.src.now c.args.toks.now names c.args.s) → Taken c.args.src.now c.args.toks.now (code.In ∷ []) (past c.args.s)
-each-in-it t c name =
-    next_tested (code.In ∷ []) refl refl name c.if-is_symbol.true c.is_symbol.ensures (rw c.past-on.ensures at c.symbol_at-then-is_name.ensures)
+each-in-it : (t : ℕ) (c : each-In_ok-on t) → Stepped c.args.src.now c.args.toks.now names c.args.s c.in_ok-named.named → Stepped c.args.src.now c.args.toks.now (code.In ∷ []) c.in_ok-named.named c.in_ok-on.on
+each-in-it t c d = stepped_next (code.In ∷ []) refl refl d c.take.ensures c.in_ok-on.was
 
-pub each-symbol_at-requires : goal.each-symbol_at-requires
-each-symbol_at-requires t c =
-    record { tokens = c.requires.ready.tokens; at_bound = c.requires.ready.here }
-
-pub each-symbol_at-requires-then-is_name : goal.each-symbol_at-requires-then-is_name
-each-symbol_at-requires-then-is_name t c =
-    let d = each-name t (goal.at.each-symbol_at-requires-then-is_name t c).Then-is_name in
-    rw c.past-on.ensures (record { tokens = d.tokens; at_bound = d.inside })
-
-pub each-range-requires : goal.each-range-requires
-each-range-requires t c =
-    let p = c.requires.keyword_lt_at in
+pub each-returns-in_err-named-clause-parts : goal.each-returns-in_err-named-clause-parts
+each-returns-in_err-named-clause-parts t c =
     let r = c.requires.ready in
-    let e = each-in-it t (goal.at.each-range-requires t c).Then-is_symbol (each-name t (goal.at.each-range-requires t c).Then-is_name) in
-    rw (c.past.ensures, c.past-on.ensures) (omega arith, (ready_of r.tokens (omega arith), omega arith))
+    rw (handed_on _ c.from_residual.ensures.1) (record { comes = λ vs. flat (step_not r.here r.used c.take_name.ensures c.in_err-named.was refl) })
 
-pub each-returns-then-is_symbol : goal.each-returns-then-is_symbol
-each-returns-then-is_symbol t c =
-    let x = rw (c.past.ensures, c.past-on.ensures) at c.range.ensures in
-    let d = each-name t (goal.at.each-returns-then-is_symbol t c).Then-is_name in
-    let e = each-in-it t (goal.at.each-returns-then-is_symbol t c).Then-is_symbol (each-name t (goal.at.each-returns-then-is_symbol t c).Then-is_name) in
-    record { parts = record { comes = λ vs. flat (tok_mark d.here d.seen (tok_then e.here e.seen (x.parts.comes vs))) }; newest = x.newest }
+pub each-take-requires-clause-at_bound : goal.each-take-requires-clause-at_bound
+each-take-requires-clause-at_bound t c = (each-name t (goal.at.each-take-requires-clause-at_bound t c).In_ok-named).inside
 
-pub each-returns-else-is_symbol : goal.each-returns-else-is_symbol
-each-returns-else-is_symbol t c =
-    let d = each-name t (goal.at.each-returns-else-is_symbol t c).Then-is_name in
-    let e = learnt (code.In ∷ []) c.if-is_symbol.false c.is_symbol.ensures (rw c.past-on.ensures at c.symbol_at-then-is_name.ensures) in
-    rw c.past-on.ensures (record { parts = record { comes = λ vs. flat (tok_mark d.here d.seen (tok_not d.inside d.used e refl)) }; newest = newest_refused })
+pub each-returns-in_err-on-clause-parts : goal.each-returns-in_err-on-clause-parts
+each-returns-in_err-on-clause-parts t c =
+    let d = each-name t (goal.at.each-returns-in_err-on-clause-parts t c).In_ok-named in
+    rw (handed_on _ c.from_residual-in_err-on.ensures.1) (record { comes = λ vs. flat (step_mark d (step_not d.inside d.used c.take.ensures c.in_err-on.was refl)) })
 
-pub each-returns-else-is_name : goal.each-returns-else-is_name
-each-returns-else-is_name t c =
+pub each-guarded-requires : goal.each-guarded-requires
+each-guarded-requires t c =
     let r = c.requires.ready in
-    let e = learnt names c.if-is_name.false c.is_name.ensures c.symbol_at.ensures in
-    record { parts = record { comes = λ vs. flat (tok_not r.here r.used e refl) }; newest = newest_refused }
+    let d = each-name t (goal.at.each-guarded-requires t c).In_ok-named in
+    let e = each-in-it t (goal.at.each-guarded-requires t c).In_ok-on d in
+    (omega arith, ready_of r.tokens (omega arith))
 
-pub elif-guarded-head-requires : goal.elif-guarded-head-requires
-elif-guarded-head-requires t c =
+pub each-returns-in_err-range-clause-parts : goal.each-returns-in_err-range-clause-parts
+each-returns-in_err-range-clause-parts t c =
+    let d = each-name t (goal.at.each-returns-in_err-range-clause-parts t c).In_ok-named in
+    let e = each-in-it t (goal.at.each-returns-in_err-range-clause-parts t c).In_ok-on d in
+    rw (handed_on _ c.from_residual-in_err-range.ensures.1) (record { comes = λ vs. flat (step_mark d (step_then e (c.guarded.ensures.stops c.in_err-range.was))) })
+
+pub each-put_for-requires : goal.each-put_for-requires
+each-put_for-requires t c =
+    let d = each-name t (goal.at.each-put_for-requires t c).In_ok-named in
+    let e = each-in-it t (goal.at.each-put_for-requires t c).In_ok-on d in
+    let g = c.guarded.ensures.leads c.in_ok-range.was in
+    record { spot = omega arith; keyword_lt_at = omega arith }
+
+pub each-returns : goal.each-returns
+each-returns t c =
+    let d = each-name t (goal.at.each-returns t c).In_ok-named in
+    let e = each-in-it t (goal.at.each-returns t c).In_ok-on d in
+    let g = c.guarded.ensures.leads c.in_ok-range.was in
+    let w = c.put_for.ensures in
+    record { parts = record { comes = λ vs. flat (step_mark d (step_then e (g.same (act_wrote g.ready.used (w _))))) }; newest = newest_wrote (w []) }
+
+pub elif-guarded-requires : goal.elif-guarded-requires
+elif-guarded-requires t c =
     let r = c.requires.ready in
     let e = taken_ready (code.Elif ∷ []) refl refl r c.requires.at_value in
     rw c.past.ensures (omega arith, ready_of r.tokens (omega arith))
 
-pub elif-put_elif-made-requires : goal.elif-put_elif-made-requires
-elif-put_elif-made-requires t c =
-    let x = rw c.past.ensures at c.guarded-head.ensures in
-    let g = x.leads c.in-Both.is in
+pub elif-returns-in_err-test : goal.elif-returns-in_err-test
+elif-returns-in_err-test t c =
+    let x = rw c.past.ensures at c.guarded.ensures in
+    rw (handed_on _ c.from_residual.ensures.1) (record { comes = λ vs. tok_mark c.requires.ready.here c.requires.at_value (x.stops c.in_err-test.was) })
+
+pub elif-put_elif-requires : goal.elif-put_elif-requires
+elif-put_elif-requires t c =
+    let g = (rw c.past.ensures at c.guarded.ensures).leads c.in_ok-test.was in
     record { spot = omega arith; keyword_lt_at = omega arith }
 
-pub elif-returns-in-Both : goal.elif-returns-in-Both
-elif-returns-in-Both t c =
-    let x = rw c.past.ensures at c.guarded-head.ensures in
-    let g = x.leads c.in-Both.is in
-    record { comes = λ vs. tok_mark c.requires.ready.here c.requires.at_value (g.same (act_wrote g.ready.used (c.put_elif-made.ensures _))) }
-
-pub elif-returns-in-Refused : goal.elif-returns-in-Refused
-elif-returns-in-Refused t c =
-    let x = rw c.past.ensures at c.guarded-head.ensures in
-    record { comes = λ vs. tok_mark c.requires.ready.here c.requires.at_value (x.stops c.in-Refused.is) }
+pub elif-returns : goal.elif-returns
+elif-returns t c =
+    let g = (rw c.past.ensures at c.guarded.ensures).leads c.in_ok-test.was in
+    record { comes = λ vs. tok_mark c.requires.ready.here c.requires.at_value (g.same (act_wrote g.ready.used (c.put_elif.ensures _))) }
 
 -- where `elif` stands
 elifs-keyword : (t : ℕ) (c : elifs-Then-is_symbol t) → Taken c.args.src.now c.args.toks.now (code.Elif ∷ []) c.args.s
 elifs-keyword t c =
     ready_tested (code.Elif ∷ []) refl refl c.requires c.if-is_symbol.true c.is_symbol.ensures c.symbol_at.ensures
 
-pub elifs-symbol_at-requires : goal.elifs-symbol_at-requires
-elifs-symbol_at-requires t c =
-    record { tokens = c.requires.tokens; at_bound = c.requires.here }
-
-pub elifs-elif-one-requires : goal.elifs-elif-one-requires
-elifs-elif-one-requires t c =
-    (omega arith, (c.requires, (elifs-keyword t (goal.at.elifs-elif-one-requires t c).Then-is_symbol).seen))
-
 pub elifs-further-requires : goal.elifs-further-requires
 elifs-further-requires t c =
     let r = c.requires in
     let e = elifs-keyword t (goal.at.elifs-further-requires t c).Then-is_symbol in
-    let g = came_start _ _ r.tokens taking_elif (omega (arith, e.inside)) c.elif-one.ensures c.in-Node.is in
+    let g = came_start _ _ r.tokens taking_elif (omega (arith, e.inside)) c.elif.ensures c.in_ok-n.was in
+    let k = c.elif.auto.tree in
     (omega arith, (ready_of r.tokens (omega arith), came_node g))
 
-pub elifs-returns-in-Node : goal.elifs-returns-in-Node
+pub elifs-returns-in_ok-n : goal.elifs-returns-in_ok-n
 unfolding begins null
-elifs-returns-in-Node t c =
-    let e = elifs-keyword t (goal.at.elifs-returns-in-Node t c).Then-is_symbol in
-    record { comes = λ vs. or_first e.here e.seen (flat (flat_then {p = elif_on} c.elif-one.ensures c.in-Node.is (one_then (rest_last _ _ c.further.ensures)))) }
+elifs-returns-in_ok-n t c =
+    let e = elifs-keyword t (goal.at.elifs-returns-in_ok-n t c).Then-is_symbol in
+    record { comes = λ vs. or_first e.here e.seen (flat (flat_then {p = elif_on} c.elif.ensures c.in_ok-n.was (one_then (lists_done _ c.further.ensures _)))) }
 
-pub elifs-returns-in-Refused : goal.elifs-returns-in-Refused
+pub elifs-returns-in_err-n : goal.elifs-returns-in_err-n
 unfolding begins null
-elifs-returns-in-Refused t c =
-    let e = elifs-keyword t (goal.at.elifs-returns-in-Refused t c).Then-is_symbol in
-    record { comes = λ vs. or_first e.here e.seen (flat (flat_stop {p = elif_on} _ _ c.elif-one.ensures c.in-Refused.is)) }
+elifs-returns-in_err-n t c =
+    let e = elifs-keyword t (goal.at.elifs-returns-in_err-n t c).Then-is_symbol in
+    rw (handed_on _ c.from_residual.ensures.1) (record { comes = λ vs. or_first e.here e.seen (flat (flat_stop {p = elif_on} _ _ c.elif.ensures c.in_err-n.was)) })
 
 pub elifs-returns-else-is_symbol : goal.elifs-returns-else-is_symbol
 unfolding begins null
@@ -292,48 +282,33 @@ elifs-returns-else-is_symbol t c =
     let e = learnt (code.Elif ∷ []) c.if-is_symbol.false c.is_symbol.ensures c.symbol_at.ensures in
     record { comes = λ vs. or_next r.here e (absent refl) (none_last r.used) }
 
--- where a keyword stands, and what was read from it on
-further-keyword : (t : ℕ) (c : further-Then-leads t) → mem (symbol_at c.args.src.now c.args.toks.now c.loop-tree.st.at.0) (leading c.args.methods ∷ []) ≡ true
-further-keyword t c = learnt (leading c.args.methods ∷ []) c.if-leads.true c.leads.ensures c.symbol_at.ensures
-
-further-came : (t : ℕ) (c : further-In-Node t) (keyword : mem (symbol_at c.args.src.now c.args.toks.now c.loop-tree.st.at.0) (leading c.args.methods ∷ []) ≡ true) → Came c.args.src.now c.args.toks.now 0 a_node c.loop-tree.st c.in-Node.n c.in-Node.after
-further-came t c keyword =
-    let i = c.loop-tree.invariant in
-    came_member c.args.methods i.ready.tokens i.ready.here (keyword) c.member-next.ensures c.in-Node.is
-
-pub further-loop-tree-init : goal.further-loop-tree-init
-further-loop-tree-init t c =
-    begin_list c.requires.ready c.requires.first_lt_nodes
-
-pub further-symbol_at-requires : goal.further-symbol_at-requires
-further-symbol_at-requires t c =
-    let i = c.loop-tree.invariant in
-    record { tokens = i.ready.tokens; at_bound = i.ready.here }
-
-pub further-member-next-requires : goal.further-member-next-requires
-further-member-next-requires t c =
-    let i = c.loop-tree.invariant in
-    (omega (arith, c.decreases, i.on, i.ready.here, i.ready.tokens.whole), (i.ready, further-keyword t (goal.at.further-member-next-requires t c).Then-leads))
+-- what a turn has read
+further-came : (t : ℕ) (c : further-In_ok-n t) → Came c.args.src.now c.args.toks.now 0 a_node c.loop-last.st c.in_ok-n.field-0.0 c.in_ok-n.field-0.1
+further-came t c =
+    let i = c.loop-last.invariant in
+    let e = learnt (leading c.args.methods ∷ []) c.loop-last-test.true c.leads.ensures c.symbol_at.ensures in
+    came_member c.args.methods i.ready.tokens i.ready.here e c.member.ensures c.in_ok-n.was
 
 pub further-link-requires : goal.further-link-requires
 further-link-requires t c =
-    let i = c.loop-tree.invariant in
-    let g = further-came t (goal.at.further-link-requires t c).In-Node (further-keyword t (goal.at.further-link-requires t c).Then-leads) in
-    let k = c.member-next.auto.tree in
+    let i = c.loop-last.invariant in
+    let g = further-came t (goal.at.further-link-requires t c).In_ok-n in
+    let k = c.member.auto.tree in
     omega arith
 
-pub further-loop-tree-smaller : goal.further-loop-tree-smaller
-further-loop-tree-smaller t c =
-    let i = c.loop-tree.invariant in
-    let g = further-came t (goal.at.further-loop-tree-smaller t c).In-Node (further-keyword t (goal.at.further-loop-tree-smaller t c).Then-leads) in
+pub further-loop-last-smaller : goal.further-loop-last-smaller
+further-loop-last-smaller t c =
+    let i = c.loop-last.invariant in
+    let g = further-came t (goal.at.further-loop-last-smaller t c).In_ok-n in
     omega arith
 
-pub further-loop-tree-preserved : goal.further-loop-tree-preserved
-further-loop-tree-preserved t c =
+pub further-loop-last-preserved : goal.further-loop-last-preserved
+further-loop-last-preserved t c =
     let v = c.args.methods in
-    let i = c.loop-tree.invariant in
-    let g = further-came t (goal.at.further-loop-tree-preserved t c).In-Node (further-keyword t (goal.at.further-loop-tree-preserved t c).Then-leads) in
-    let k = c.member-next.auto.tree in
+    let i = c.loop-last.invariant in
+    let e = learnt (leading v ∷ []) c.loop-last-test.true c.leads.ensures c.symbol_at.ensures in
+    let g = further-came t (goal.at.further-loop-last-preserved t c).In_ok-n in
+    let k = c.member.auto.tree in
     let k₂ = c.link.auto.tree in
     record {
       ready = ready_of i.ready.tokens (omega arith);
@@ -342,178 +317,103 @@ further-loop-tree-preserved t c =
       spare = omega arith;
       long = omega arith;
       node = came_node g;
-      same = λ out q vs ws came. i.same out q vs ws (others_on v i.ready.here (further-keyword t (goal.at.further-loop-tree-preserved t c).Then-leads) c.member-next.ensures c.in-Node.is (one_then (changed_then ws (c.link.ensures _ _ _ _) came)));
+      same = λ out q vs ws came. i.same out q vs ws (others_on v i.ready.here e c.member.ensures c.in_ok-n.was (one_then (changed_then ws (c.link.ensures _ _ _ _) came)));
     }
 
-pub further-returns-in-Refused : goal.further-returns-in-Refused
-further-returns-in-Refused t c =
-    let i = c.loop-tree.invariant in
-    lists_stop (λ out q vs ws. i.same out q vs ws (others_stop c.args.methods i.ready.here (further-keyword t (goal.at.further-returns-in-Refused t c).Then-leads) c.member-next.ensures c.in-Refused.is))
+pub further-returns-in_err-n : goal.further-returns-in_err-n
+further-returns-in_err-n t c =
+    let i = c.loop-last.invariant in
+    let e = learnt (leading c.args.methods ∷ []) c.loop-last-test.true c.leads.ensures c.symbol_at.ensures in
+    rw (handed_on _ c.from_residual.ensures.1) (lists_stop (λ out q vs ws. i.same out q vs ws (others_stop c.args.methods i.ready.here e c.member.ensures c.in_err-n.was)))
 
-pub further-returns-else-leads : goal.further-returns-else-leads
-further-returns-else-leads t c =
+pub further-returns : goal.further-returns
+further-returns t c =
     let v = c.args.methods in
-    let i = c.loop-tree.invariant in
-    let e = learnt (leading v ∷ []) c.if-leads.false c.leads.ensures c.symbol_at.ensures in
+    let i = c.loop-last.invariant in
+    let e = learnt (leading v ∷ []) c.loop-last-test.false c.leads.ensures c.symbol_at.ensures in
     lists_node (record {
       ready = i.ready;
       on = i.on;
       kept = i.kept;
       spare = i.spare;
       there = omega (arith, i.kept, c.requires.first_lt_nodes);
-      last = c.loop-tree.last.0;
+      last = c.loop-last.last.0;
       same = λ out q vs ws came. i.same out q vs ws (others_end v i.ready.here e came);
     })
 
--- behind the names, and where the parenthesis stands behind them
-given-went : (t : ℕ) (c : given-After-names-heads t) → Went c.args.src.now c.args.toks.now c.args.s c.names-heads.result.1
-given-went t c =
-    let r = c.requires.ready in
-    after_list _ _ r.tokens modest_parameters r.here (c.names-heads.ensures 0) refl
+pub guarded-returns-in_err-test : goal.guarded-returns-in_err-test
+guarded-returns-in_err-test t c =
+    guards_stop _ c.from_residual.ensures.1 (λ out q vs ws. part_stop _ c.enter.ensures c.in_err-test.was)
 
-given-paren : (t : ℕ) (c : given-Then-is_symbol t) (went : Went c.args.src.now c.args.toks.now c.args.s c.names-heads.result.1) → Taken c.args.src.now c.args.toks.now (code.RParen ∷ []) c.names-heads.result.1
-given-paren t c went =
-    let g = went in
-    taken_tested (code.RParen ∷ []) refl refl c.requires.ready.tokens g.here g.used c.if-is_symbol.true c.is_symbol.ensures c.symbol_at.ensures
-
-pub given-names-heads-requires : goal.given-names-heads-requires
-given-names-heads-requires t c =
-    c.requires.ready
-
-pub given-symbol_at-requires : goal.given-symbol_at-requires
-given-symbol_at-requires t c =
-    record { tokens = c.requires.ready.tokens; at_bound = (given-went t (goal.at.given-symbol_at-requires t c).After-names-heads).here }
-
-pub given-past-requires : goal.given-past-requires
-given-past-requires t c =
-    let e = given-paren t (goal.at.given-past-requires t c).Then-is_symbol (given-went t (goal.at.given-past-requires t c).After-names-heads) in
-    omega arith
-
-pub given-block-body-requires : goal.given-block-body-requires
-given-block-body-requires t c =
-    let r = c.requires.ready in
-    let g = given-went t (goal.at.given-block-body-requires t c).After-names-heads in
-    let e = given-paren t (goal.at.given-block-body-requires t c).Then-is_symbol (given-went t (goal.at.given-block-body-requires t c).After-names-heads) in
-    rw c.past.ensures (omega arith, ready_of r.tokens (omega arith))
-
-pub given-put_def-made-requires : goal.given-put_def-made-requires
-unfolding first rank
-given-put_def-made-requires t c =
-    let x = rw c.past.ensures at c.block-body.ensures in
-    let p = c.requires.keyword_lt_at in
-    let r = c.requires.ready in
-    let g = given-went t (goal.at.given-put_def-made-requires t c).After-names-heads in
-    let e = given-paren t (goal.at.given-put_def-made-requires t c).Then-is_symbol (given-went t (goal.at.given-put_def-made-requires t c).After-names-heads) in
-    let b = came_call _ _ r.tokens pays_block refl e.inside x c.in-Node.is in
-    let k₁ = c.names-heads.auto.tree in
-    let k₂ = c.block-body.auto.tree in
-    record { spot = omega arith; keyword_lt_at = omega arith }
-
-pub given-returns-in-Node : goal.given-returns-in-Node
-unfolding first rank
-given-returns-in-Node t c =
-    let x = rw c.past.ensures at c.block-body.ensures in
-    let e = given-paren t (goal.at.given-returns-in-Node t c).Then-is_symbol (given-went t (goal.at.given-returns-in-Node t c).After-names-heads) in
-    let b = came_call _ _ e.tokens pays_block refl e.inside x c.in-Node.is in
-    let w = c.put_def-made.ensures _ in
-    record { parts = record { comes = λ vs. part_then (c.names-heads.ensures _) refl (tok_then e.here e.seen (part_then x c.in-Node.is (act_wrote b.used w))) }; newest = newest_wrote w }
-
-pub given-returns-in-Refused : goal.given-returns-in-Refused
-given-returns-in-Refused t c =
-    let x = rw c.past.ensures at c.block-body.ensures in
-    let e = given-paren t (goal.at.given-returns-in-Refused t c).Then-is_symbol (given-went t (goal.at.given-returns-in-Refused t c).After-names-heads) in
-    record { parts = record { comes = λ vs. part_then (c.names-heads.ensures _) refl (tok_then e.here e.seen (part_stop _ x c.in-Refused.is)) }; newest = newest_refused }
-
-pub given-returns-else-is_symbol : goal.given-returns-else-is_symbol
-given-returns-else-is_symbol t c =
-    let g = given-went t (goal.at.given-returns-else-is_symbol t c).After-names-heads in
-    let e = learnt (code.RParen ∷ []) c.if-is_symbol.false c.is_symbol.ensures c.symbol_at.ensures in
-    record { parts = record { comes = λ vs. part_then (c.names-heads.ensures _) refl (tok_not g.here g.used e refl) }; newest = newest_refused }
-
-pub guarded-enter-test-requires : goal.guarded-enter-test-requires
-guarded-enter-test-requires t c =
+pub guarded-block-requires : goal.guarded-block-requires
+guarded-block-requires t c =
     let r = c.requires in
-    ready_of r.tokens (omega arith)
-
-pub guarded-block-body-requires : goal.guarded-block-body-requires
-unfolding first rank
-guarded-block-body-requires t c =
-    let r = c.requires in
-    let g = after_call _ _ r.tokens spares_e refl r.here c.enter-test.ensures c.in-Node.is in
+    let g = after_enter r c.enter.ensures c.in_ok-test.was in
+    let k = c.enter.auto.tree in
     (omega arith, ready_of r.tokens (omega arith))
 
-pub guarded-returns-in-Node-body : goal.guarded-returns-in-Node-body
+pub guarded-returns-in_err-first : goal.guarded-returns-in_err-first
+guarded-returns-in_err-first t c =
+    guards_stop _ c.from_residual-in_err-first.ensures.1 (λ out q vs ws. part_then c.enter.ensures c.in_ok-test.was (part_stop _ c.block.ensures c.in_err-first.was))
+
+pub guarded-returns : goal.guarded-returns
 unfolding first rank
-guarded-returns-in-Node-body t c =
+guarded-returns t c =
     let r = c.requires in
-    let g = after_call _ _ r.tokens spares_e refl r.here c.enter-test.ensures c.in-Node.is in
-    let h = came_call _ _ r.tokens pays_block refl g.here c.block-body.ensures c.in-Node-body.is in
+    let g = after_enter r c.enter.ensures c.in_ok-test.was in
+    let h = came_call _ _ r.tokens pays_block refl g.here c.block.ensures c.in_ok-first.was in
+    let k = c.enter.auto.tree in
+    let l = c.block.auto.tree in
     guards_both (record {
       ready = ready_of r.tokens (omega arith);
       on = omega arith;
-      same = λ x. part_then c.enter-test.ensures c.in-Node.is (part_then c.block-body.ensures c.in-Node-body.is x);
+      same = λ x. part_then c.enter.ensures c.in_ok-test.was (part_then c.block.ensures c.in_ok-first.was x);
     })
 
-pub guarded-returns-in-Refused-body : goal.guarded-returns-in-Refused-body
-guarded-returns-in-Refused-body t c =
-    guards_stop (λ out q vs ws. part_then c.enter-test.ensures c.in-Node.is (part_stop _ c.block-body.ensures c.in-Refused-body.is))
+-- where Indent stands, and what is known behind the Lines
+indented-indent : (t : ℕ) (c : indented-In_ok-on t) → Stepped c.args.src.now c.args.toks.now (code.Indent ∷ []) c.args.s c.in_ok-on.on
+indented-indent t c = stepped_ready (code.Indent ∷ []) refl refl c.requires c.take.ensures c.in_ok-on.was
 
-pub guarded-returns-in-Refused : goal.guarded-returns-in-Refused
-guarded-returns-in-Refused t c =
-    guards_stop (λ out q vs ws. part_stop _ c.enter-test.ensures c.in-Refused.is)
+indented-passed : (t : ℕ) (c : indented-In_ok-first t) → Stepped c.args.src.now c.args.toks.now (code.Indent ∷ []) c.args.s c.in_ok-on.on → Passed c.args.src.now c.args.toks.now a_list c.in_ok-on.on c.in_ok-first.field-0.0 c.in_ok-first.field-0.1
+indented-passed t c e = passed_start _ _ e.tokens modest_inside e.inside c.inside.ensures c.in_ok-first.was
 
--- where Indent stands
-indented-indent : (t : ℕ) (c : indented-Then-is_symbol t) → Taken c.args.src.now c.args.toks.now (code.Indent ∷ []) c.args.s
-indented-indent t c =
-    ready_tested (code.Indent ∷ []) refl refl c.requires c.if-is_symbol.true c.is_symbol.ensures c.symbol_at.ensures
-
-pub indented-symbol_at-requires : goal.indented-symbol_at-requires
-indented-symbol_at-requires t c =
-    record { tokens = c.requires.tokens; at_bound = c.requires.here }
-
-pub indented-inside-body-requires : goal.indented-inside-body-requires
-indented-inside-body-requires t c =
+pub indented-returns-in_err-on : goal.indented-returns-in_err-on
+indented-returns-in_err-on t c =
     let r = c.requires in
-    let e = indented-indent t (goal.at.indented-inside-body-requires t c).Then-is_symbol in
-    rw c.past.ensures (omega arith, ready_of r.tokens (omega arith))
+    rw (handed_on _ c.from_residual.ensures.1) (record { comes = λ vs. step_not r.here r.used c.take.ensures c.in_err-on.was refl })
 
-pub indented-dedent-requires : goal.indented-dedent-requires
-indented-dedent-requires t c =
-    let x = rw c.past.ensures at c.inside-body.ensures in
-    let e = indented-indent t (goal.at.indented-dedent-requires t c).Then-is_symbol in
-    let g = passed_start _ _ e.tokens modest_inside e.inside x c.in-Node.is in
-    record { tokens = e.tokens; at_bound = (g.here, g.used) }
-
-pub indented-returns-in-Node : goal.indented-returns-in-Node
-indented-returns-in-Node t c =
-    let x = rw c.past.ensures at c.inside-body.ensures in
-    let e = indented-indent t (goal.at.indented-returns-in-Node t c).Then-is_symbol in
-    record { comes = λ vs. tok_then e.here e.seen (part_then x c.in-Node.is ((c.dedent.ensures _ _).comes vs)) }
-
-pub indented-returns-in-Refused : goal.indented-returns-in-Refused
-indented-returns-in-Refused t c =
-    let x = rw c.past.ensures at c.inside-body.ensures in
-    let e = indented-indent t (goal.at.indented-returns-in-Refused t c).Then-is_symbol in
-    record { comes = λ vs. tok_then e.here e.seen (part_stop _ x c.in-Refused.is) }
-
-pub indented-returns-else-is_symbol : goal.indented-returns-else-is_symbol
-indented-returns-else-is_symbol t c =
+pub indented-inside-requires : goal.indented-inside-requires
+indented-inside-requires t c =
     let r = c.requires in
-    let e = learnt (code.Indent ∷ []) c.if-is_symbol.false c.is_symbol.ensures c.symbol_at.ensures in
-    record { comes = λ vs. tok_not r.here r.used e refl }
+    let e = indented-indent t (goal.at.indented-inside-requires t c).In_ok-on in
+    (omega arith, ready_of r.tokens (omega arith))
 
-pub inside-symbol_at-requires : goal.inside-symbol_at-requires
-inside-symbol_at-requires t c =
-    record { tokens = c.requires.tokens; at_bound = c.requires.here }
+pub indented-returns-in_err-first : goal.indented-returns-in_err-first
+indented-returns-in_err-first t c =
+    let e = indented-indent t (goal.at.indented-returns-in_err-first t c).In_ok-on in
+    rw (handed_on _ c.from_residual-in_err-first.ensures.1) (record { comes = λ vs. step_then e (part_stop _ c.inside.ensures c.in_err-first.was) })
 
-pub inside-skip_newlines-line-requires : goal.inside-skip_newlines-line-requires
-inside-skip_newlines-line-requires t c =
-    record { tokens = c.requires.tokens; at_bound = c.requires.here }
+pub indented-take-requires-2-clause-at_bound : goal.indented-take-requires-2-clause-at_bound
+indented-take-requires-2-clause-at_bound t c =
+    (indented-passed t (goal.at.indented-take-requires-2-clause-at_bound t c).In_ok-first (indented-indent t (goal.at.indented-take-requires-2-clause-at_bound t c).In_ok-on)).here
+
+pub indented-returns-in_err-done : goal.indented-returns-in_err-done
+indented-returns-in_err-done t c =
+    let e = indented-indent t (goal.at.indented-returns-in_err-done t c).In_ok-on in
+    let g = indented-passed t (goal.at.indented-returns-in_err-done t c).In_ok-first e in
+    rw (handed_on _ c.from_residual-in_err-done.ensures.1) (record { comes = λ vs. step_then e (part_then c.inside.ensures c.in_ok-first.was (step_no g.here g.used c.take-2.ensures c.in_err-done.was refl)) })
+
+pub indented-returns : goal.indented-returns
+indented-returns t c =
+    let e = indented-indent t (goal.at.indented-returns t c).In_ok-on in
+    let g = indented-passed t (goal.at.indented-returns t c).In_ok-first e in
+    let d = stepped (code.Dedent ∷ []) refl refl e.tokens g.here g.used c.take-2.ensures c.in_ok-done.was in
+    record { comes = λ vs. step_then e (part_then c.inside.ensures c.in_ok-first.was (step_end d)) }
 
 pub inside-lines-requires : goal.inside-lines-requires
 inside-lines-requires t c =
     let r = c.requires in
-    let g = c.skip_newlines-line.ensures in
+    let g = c.skip_newlines-at.ensures in
     let x = run_text (code.Newline ∷ []) refl refl r.tokens g in
     (omega (arith, c.decreases, g.order), ready_of r.tokens (omega (arith, r.room, r.nodes, r.opened, r.used, x, g.order, g.inside)))
 
@@ -522,7 +422,7 @@ unfolding first begins null
 inside-returns-then-begins_lines t c =
     let r = c.requires in
     let b = learnt (code.Newline ∷ first_line) c.if-begins_lines.true c.begins_lines.ensures c.symbol_at.ensures in
-    record { comes = λ vs. or_first r.here b (newlines_pass c.skip_newlines-line.ensures (c.lines.ensures.comes vs)) }
+    record { comes = λ vs. or_first r.here b (newlines_pass c.skip_newlines-at.ensures (c.lines.ensures.comes vs)) }
 
 pub inside-returns-else-begins_lines : goal.inside-returns-else-begins_lines
 unfolding first begins null
@@ -532,204 +432,198 @@ inside-returns-else-begins_lines t c =
     record { comes = λ vs. or_next r.here b (absent refl) (none_last r.used) }
 
 -- what a turn has read
-lines-came : (t : ℕ) (c : lines-In-Node t) → Came c.args.src.now c.args.toks.now 10 a_growing c.loop-n.st c.in-Node.n c.in-Node.after
-lines-came t c = lines_came c.loop-n.invariant c.rule_line-inner.ensures c.in-Node.is
+lines-came : (t : ℕ) (c : lines-In_ok-n t) → Came c.args.src.now c.args.toks.now 10 a_growing c.loop-n.st c.in_ok-n.field-0.0 c.in_ok-n.field-0.1
+lines-came t c = lines_came c.loop-n.invariant c.rule_line.ensures c.in_ok-n.was
 
-pub lines-symbol_at-requires : goal.lines-symbol_at-requires
-lines-symbol_at-requires t c =
-    record { tokens = c.requires.tokens; at_bound = c.requires.here }
+pub lines-returns-then-not-begins_line : goal.lines-returns-then-not-begins_line
+unfolding first
+lines-returns-then-not-begins_line t c =
+    let r = c.requires in
+    let b = learnt first_line c.if-not-begins_line.true c.begins_line.ensures c.symbol_at.ensures in
+    record { comes = λ vs. part_stop {mid = a_growing} _ (no_call r.here r.used b refl) refl }
 
 pub lines-loop-n-init : goal.lines-loop-n-init
 unfolding first
 lines-loop-n-init t c =
-    let b = learnt first_line c.if-begins_line.true c.begins_line.ensures c.symbol_at.ensures in
+    let b = learnt first_line c.if-not-begins_line.false c.begins_line.ensures c.symbol_at.ensures in
     gathering_starts {item = item} c.requires (record { seen = b })
 
-pub lines-rule_line-inner-requires : goal.lines-rule_line-inner-requires
-lines-rule_line-inner-requires t c =
-    let i = c.loop-n.invariant in
-    (omega (arith, c.decreases, i.on), (i.ready, i.begun))
+pub lines-returns-in_err-n : goal.lines-returns-in_err-n
+lines-returns-in_err-n t c =
+    rw (handed_on _ c.from_residual.ensures.1) (record { comes = λ vs. lines_stop c.loop-n.invariant c.rule_line.ensures c.in_err-n.was vs })
 
-pub lines-overflow_sub-k : goal.lines-overflow_sub-k
-lines-overflow_sub-k t c = omega (arith, came_growing (lines-came t (goal.at.lines-overflow_sub-k t c).In-Node))
+pub lines-overflow_sub-last : goal.lines-overflow_sub-last
+lines-overflow_sub-last t c = omega (arith, came_growing (lines-came t (goal.at.lines-overflow_sub-last t c).In_ok-n))
 
-pub lines-skip_newlines-line-requires : goal.lines-skip_newlines-line-requires
-lines-skip_newlines-line-requires t c =
-    record { tokens = c.loop-n.invariant.ready.tokens; at_bound = (lines-came t (goal.at.lines-skip_newlines-line-requires t c).In-Node).here }
+pub lines-skip_newlines-at-requires-clause-at_bound : goal.lines-skip_newlines-at-requires-clause-at_bound
+lines-skip_newlines-at-requires-clause-at_bound t c = (lines-came t (goal.at.lines-skip_newlines-at-requires-clause-at_bound t c).In_ok-n).here
 
 pub lines-append-first-requires : goal.lines-append-first-requires
 lines-append-first-requires t c =
     let i = c.loop-n.invariant in
-    let r = c.rule_line-inner.ensures in
-    let e = c.in-Node.is in
-    record { nodes_in_bounds = lines_room i r e c.rule_line-inner.auto.tree; held = lines_held i r e c.skip_newlines-line.ensures }
+    let r = c.rule_line.ensures in
+    let e = c.in_ok-n.was in
+    record { nodes_in_bounds = lines_room i r e c.rule_line.auto.tree; held = lines_held i r e c.skip_newlines-at.ensures }
 
-pub lines-symbol_at-requires-in-Node : goal.lines-symbol_at-requires-in-Node
-lines-symbol_at-requires-in-Node t c =
-    record { tokens = c.loop-n.invariant.ready.tokens; at_bound = c.skip_newlines-line.ensures.inside }
+pub lines-returns-then-not-begins_line-2 : goal.lines-returns-then-not-begins_line-2
+lines-returns-then-not-begins_line-2 t c =
+    let j = c.append-first.ensures _ _ in
+    let b = learnt first_line c.if-not-begins_line-2.true c.begins_line-in-loop-n.ensures c.symbol_at-in-loop-n.ensures in
+    record { comes = λ vs. lines_end c.loop-n.invariant c.rule_line.ensures c.in_ok-n.was c.skip_newlines-at.ensures j b vs }
 
 pub lines-loop-n-smaller : goal.lines-loop-n-smaller
 lines-loop-n-smaller t c =
-    let g = c.skip_newlines-line.ensures in
-    let v = lines-came t (goal.at.lines-loop-n-smaller t c).In-Node in
+    let g = c.skip_newlines-at.ensures in
+    let v = lines-came t (goal.at.lines-loop-n-smaller t c).In_ok-n in
     omega (arith, v.on, g.order, g.inside)
 
 pub lines-loop-n-preserved : goal.lines-loop-n-preserved
 lines-loop-n-preserved t c =
-    let i = c.loop-n.invariant in
-    let g = c.skip_newlines-line.ensures in
     let j = c.append-first.ensures _ _ in
-    let b = learnt first_line c.if-begins_line-2.true c.begins_line-in-Node.ensures c.symbol_at-in-Node.ensures in
-    lines_goes i c.rule_line-inner.ensures c.in-Node.is g j c.rule_line-inner.auto.tree c.append-first.auto.tree b
-
-pub lines-returns-else-begins_line-2 : goal.lines-returns-else-begins_line-2
-lines-returns-else-begins_line-2 t c =
-    let i = c.loop-n.invariant in
-    let g = c.skip_newlines-line.ensures in
-    let j = c.append-first.ensures _ _ in
-    let b = learnt first_line c.if-begins_line-2.false c.begins_line-in-Node.ensures c.symbol_at-in-Node.ensures in
-    record { comes = λ vs. lines_end i c.rule_line-inner.ensures c.in-Node.is g j b vs }
-
-pub lines-returns-in-Refused : goal.lines-returns-in-Refused
-lines-returns-in-Refused t c =
-    record { comes = λ vs. lines_stop c.loop-n.invariant c.rule_line-inner.ensures c.in-Refused.is vs }
-
-pub lines-returns : goal.lines-returns
-unfolding first
-lines-returns t c =
-    let r = c.requires in
-    let b = learnt first_line c.if-begins_line.false c.begins_line.ensures c.symbol_at.ensures in
-    record { comes = λ vs. part_stop {mid = a_growing} _ (no_call r.here r.used b refl) refl }
-
-pub member-method-requires : goal.member-method-requires
-member-method-requires t c =
-    (omega arith, c.requires.ready)
-
-pub member-elif-requires : goal.member-elif-requires
-member-elif-requires t c =
-    (omega arith, (c.requires.ready, rw c.if-methods.false at c.requires.methods_value))
-
-pub member-returns-then-methods : goal.member-returns-then-methods
-member-returns-then-methods t c =
-    rw c.if-methods.true c.method.ensures
-
-pub member-returns-else-methods : goal.member-returns-else-methods
-member-returns-else-methods t c =
-    rw c.if-methods.false c.elif.ensures
+    let b = learnt first_line c.if-not-begins_line-2.false c.begins_line-in-loop-n.ensures c.symbol_at-in-loop-n.ensures in
+    lines_goes c.loop-n.invariant c.rule_line.ensures c.in_ok-n.was c.skip_newlines-at.ensures j c.rule_line.auto.tree c.append-first.auto.tree b
 
 -- where `def` stands
-method-def : (t : ℕ) (c : method-Then-is_symbol t) → Taken c.args.src.now c.args.toks.now (code.Def ∷ []) c.args.s
-method-def t c =
-    ready_tested (code.Def ∷ []) refl refl c.requires c.if-is_symbol.true c.is_symbol.ensures c.symbol_at.ensures
+method-def : (t : ℕ) (c : method-In_ok-on t) → Stepped c.args.src.now c.args.toks.now (code.Def ∷ []) c.args.s c.in_ok-on.on
+method-def t c = stepped_ready (code.Def ∷ []) refl refl c.requires c.take.ensures c.in_ok-on.was
 
-pub method-symbol_at-requires : goal.method-symbol_at-requires
-method-symbol_at-requires t c =
+pub method-returns-in_err-on : goal.method-returns-in_err-on
+method-returns-in_err-on t c =
     let r = c.requires in
-    record { tokens = r.tokens; at_bound = r.here }
+    rw (handed_on _ c.from_residual.ensures.1) (record { comes = λ vs. step_not r.here r.used c.take.ensures c.in_err-on.was refl })
 
 pub method-named-requires : goal.method-named-requires
 method-named-requires t c =
     let r = c.requires in
-    let e = method-def t (goal.at.method-named-requires t c).Then-is_symbol in
-    rw c.past.ensures (omega arith, (ready_of r.tokens (omega arith), omega arith))
+    let e = method-def t (goal.at.method-named-requires t c).In_ok-on in
+    (omega arith, (ready_of r.tokens (omega arith), omega arith))
 
-pub method-returns-then-is_symbol : goal.method-returns-then-is_symbol
-method-returns-then-is_symbol t c =
-    let x = rw c.past.ensures at c.named.ensures in
-    let e = method-def t (goal.at.method-returns-then-is_symbol t c).Then-is_symbol in
-    record { comes = λ vs. tok_mark e.here e.seen (x.parts.comes vs) }
+pub method-returns : goal.method-returns
+method-returns t c =
+    let e = method-def t (goal.at.method-returns t c).In_ok-on in
+    record { comes = λ vs. step_mark e (c.named.ensures.parts.comes vs) }
 
-pub method-returns-else-is_symbol : goal.method-returns-else-is_symbol
-method-returns-else-is_symbol t c =
-    let r = c.requires in
-    let e = learnt (code.Def ∷ []) c.if-is_symbol.false c.is_symbol.ensures c.symbol_at.ensures in
-    record { comes = λ vs. tok_not r.here r.used e refl }
+-- where the name stands, the parenthesis behind it, and what is known behind the names and at the parenthesis there
+named-name : (t : ℕ) (c : named-In_ok-named t) → Stepped c.args.src.now c.args.toks.now names c.args.s c.in_ok-named.named
+named-name t c = stepped_ready names refl refl c.requires.ready c.take_name.ensures c.in_ok-named.was
 
--- where the name stands, and the parenthesis behind it
-named-name : (t : ℕ) (c : named-Then-is_name t) → Taken c.args.src.now c.args.toks.now names c.args.s
-named-name t c =
-    ready_tested names refl refl c.requires.ready c.if-is_name.true c.is_name.ensures c.symbol_at.ensures
+named-open : (t : ℕ) (c : named-In_ok-on t) → Stepped c.args.src.now c.args.toks.now names c.args.s c.in_ok-named.named → Stepped c.args.src.now c.args.toks.now (code.LParen ∷ []) c.in_ok-named.named c.in_ok-on.on
+named-open t c d = stepped_next (code.LParen ∷ []) refl refl d c.take.ensures c.in_ok-on.was
 
-named-paren : (t : ℕ) (c : named-Then-is_symbol t) (name : Taken c.args.src.now c.args.toks.now names c.args.s) → Taken c.args.src.now c.args.toks.now (code.LParen ∷ []) (past c.args.s)
-named-paren t c name =
-    next_tested (code.LParen ∷ []) refl refl name c.if-is_symbol.true c.is_symbol.ensures (rw c.past-on.ensures at c.symbol_at-then-is_name.ensures)
+named-went : (t : ℕ) (c : named-After-names t) → Stepped c.args.src.now c.args.toks.now (code.LParen ∷ []) c.in_ok-named.named c.in_ok-on.on → Went c.args.src.now c.args.toks.now c.in_ok-on.on c.names.result.1
+named-went t c e = after_list _ _ e.tokens modest_parameters e.inside (c.names.ensures 0) refl
 
-pub named-symbol_at-requires : goal.named-symbol_at-requires
-named-symbol_at-requires t c =
+named-shut : (t : ℕ) (c : named-In_ok-shut t) → Went c.args.src.now c.args.toks.now c.in_ok-on.on c.names.result.1 → Stepped c.args.src.now c.args.toks.now (code.RParen ∷ []) c.names.result.1 c.in_ok-shut.shut
+named-shut t c g = stepped (code.RParen ∷ []) refl refl c.requires.ready.tokens g.here g.used c.take-2.ensures c.in_ok-shut.was
+
+pub named-returns-in_err-named-clause-parts : goal.named-returns-in_err-named-clause-parts
+named-returns-in_err-named-clause-parts t c =
     let r = c.requires.ready in
-    record { tokens = r.tokens; at_bound = r.here }
+    rw (handed_on _ c.from_residual.ensures.1) (record { comes = λ vs. flat (step_not r.here r.used c.take_name.ensures c.in_err-named.was refl) })
 
-pub named-symbol_at-requires-then-is_name : goal.named-symbol_at-requires-then-is_name
-named-symbol_at-requires-then-is_name t c =
-    let d = named-name t (goal.at.named-symbol_at-requires-then-is_name t c).Then-is_name in
-    rw c.past-on.ensures (record { tokens = d.tokens; at_bound = d.inside })
+pub named-take-requires-clause-at_bound : goal.named-take-requires-clause-at_bound
+named-take-requires-clause-at_bound t c = (named-name t (goal.at.named-take-requires-clause-at_bound t c).In_ok-named).inside
 
-pub named-given-requires : goal.named-given-requires
-named-given-requires t c =
-    let p = c.requires.keyword_lt_at in
+pub named-returns-in_err-on-clause-parts : goal.named-returns-in_err-on-clause-parts
+named-returns-in_err-on-clause-parts t c =
+    let d = named-name t (goal.at.named-returns-in_err-on-clause-parts t c).In_ok-named in
+    rw (handed_on _ c.from_residual-in_err-on.ensures.1) (record { comes = λ vs. flat (step_mark d (step_not d.inside d.used c.take.ensures c.in_err-on.was refl)) })
+
+pub named-names-requires : goal.named-names-requires
+named-names-requires t c =
     let r = c.requires.ready in
-    let e = named-paren t (goal.at.named-given-requires t c).Then-is_symbol (named-name t (goal.at.named-given-requires t c).Then-is_name) in
-    rw (c.past.ensures, c.past-on.ensures) (omega arith, (ready_of r.tokens (omega arith), omega arith))
+    let d = named-name t (goal.at.named-names-requires t c).In_ok-named in
+    let e = named-open t (goal.at.named-names-requires t c).In_ok-on d in
+    ready_of r.tokens (omega arith)
 
-pub named-returns-then-is_symbol : goal.named-returns-then-is_symbol
-named-returns-then-is_symbol t c =
-    let x = rw (c.past.ensures, c.past-on.ensures) at c.given.ensures in
-    let d = named-name t (goal.at.named-returns-then-is_symbol t c).Then-is_name in
-    let e = named-paren t (goal.at.named-returns-then-is_symbol t c).Then-is_symbol (named-name t (goal.at.named-returns-then-is_symbol t c).Then-is_name) in
-    record { parts = record { comes = λ vs. flat (tok_mark d.here d.seen (tok_then e.here e.seen (x.parts.comes vs))) }; newest = x.newest }
+pub named-take-requires-2-clause-at_bound : goal.named-take-requires-2-clause-at_bound
+named-take-requires-2-clause-at_bound t c =
+    let e = named-open t (goal.at.named-take-requires-2-clause-at_bound t c).In_ok-on (named-name t (goal.at.named-take-requires-2-clause-at_bound t c).In_ok-named) in
+    (named-went t (goal.at.named-take-requires-2-clause-at_bound t c).After-names e).here
 
-pub named-returns-else-is_symbol : goal.named-returns-else-is_symbol
-named-returns-else-is_symbol t c =
-    let d = named-name t (goal.at.named-returns-else-is_symbol t c).Then-is_name in
-    let e = learnt (code.LParen ∷ []) c.if-is_symbol.false c.is_symbol.ensures (rw c.past-on.ensures at c.symbol_at-then-is_name.ensures) in
-    rw c.past-on.ensures (record { parts = record { comes = λ vs. flat (tok_mark d.here d.seen (tok_not d.inside d.used e refl)) }; newest = newest_refused })
+pub named-returns-in_err-shut-clause-parts : goal.named-returns-in_err-shut-clause-parts
+named-returns-in_err-shut-clause-parts t c =
+    let d = named-name t (goal.at.named-returns-in_err-shut-clause-parts t c).In_ok-named in
+    let e = named-open t (goal.at.named-returns-in_err-shut-clause-parts t c).In_ok-on d in
+    let g = named-went t (goal.at.named-returns-in_err-shut-clause-parts t c).After-names e in
+    rw (handed_on _ c.from_residual-in_err-shut.ensures.1) (record { comes = λ vs. flat (step_mark d (step_then e (part_then (c.names.ensures _) refl (step_not g.here g.used c.take-2.ensures c.in_err-shut.was refl)))) })
 
-pub named-returns-else-is_name : goal.named-returns-else-is_name
-named-returns-else-is_name t c =
+pub named-block-requires : goal.named-block-requires
+named-block-requires t c =
     let r = c.requires.ready in
-    let d = learnt names c.if-is_name.false c.is_name.ensures c.symbol_at.ensures in
-    record { parts = record { comes = λ vs. flat (tok_not r.here r.used d refl) }; newest = newest_refused }
+    let d = named-name t (goal.at.named-block-requires t c).In_ok-named in
+    let e = named-open t (goal.at.named-block-requires t c).In_ok-on d in
+    let g = named-went t (goal.at.named-block-requires t c).After-names e in
+    let f = named-shut t (goal.at.named-block-requires t c).In_ok-shut g in
+    let k = c.names.auto.tree in
+    (omega arith, ready_of r.tokens (omega arith))
+
+pub named-returns-in_err-first-clause-parts : goal.named-returns-in_err-first-clause-parts
+named-returns-in_err-first-clause-parts t c =
+    let d = named-name t (goal.at.named-returns-in_err-first-clause-parts t c).In_ok-named in
+    let e = named-open t (goal.at.named-returns-in_err-first-clause-parts t c).In_ok-on d in
+    let f = named-shut t (goal.at.named-returns-in_err-first-clause-parts t c).In_ok-shut (named-went t (goal.at.named-returns-in_err-first-clause-parts t c).After-names e) in
+    rw (handed_on _ c.from_residual-in_err-first.ensures.1) (record { comes = λ vs. flat (step_mark d (step_then e (part_then (c.names.ensures _) refl (step_then f (part_stop _ c.block.ensures c.in_err-first.was))))) })
+
+pub named-put_def-requires : goal.named-put_def-requires
+unfolding first rank
+named-put_def-requires t c =
+    let r = c.requires.ready in
+    let d = named-name t (goal.at.named-put_def-requires t c).In_ok-named in
+    let e = named-open t (goal.at.named-put_def-requires t c).In_ok-on d in
+    let g = named-went t (goal.at.named-put_def-requires t c).After-names e in
+    let f = named-shut t (goal.at.named-put_def-requires t c).In_ok-shut g in
+    let b = came_call _ _ r.tokens pays_block refl f.inside c.block.ensures c.in_ok-first.was in
+    let k₁ = c.names.auto.tree in
+    let k₂ = c.block.auto.tree in
+    record { spot = omega arith; keyword_lt_at = omega arith }
+
+pub named-returns : goal.named-returns
+unfolding first rank
+named-returns t c =
+    let d = named-name t (goal.at.named-returns t c).In_ok-named in
+    let e = named-open t (goal.at.named-returns t c).In_ok-on d in
+    let f = named-shut t (goal.at.named-returns t c).In_ok-shut (named-went t (goal.at.named-returns t c).After-names e) in
+    let b = came_call _ _ f.tokens pays_block refl f.inside c.block.ensures c.in_ok-first.was in
+    let w = c.put_def.ensures in
+    record { parts = record { comes = λ vs. flat (step_mark d (step_then e (part_then (c.names.ensures _) refl (step_then f (part_then c.block.ensures c.in_ok-first.was (act_wrote b.used (w _))))))) }; newest = newest_wrote (w []) }
 
 -- where `else` stands
 other-else : (t : ℕ) (c : other-Then-is_symbol t) → Taken c.args.src.now c.args.toks.now (code.Else ∷ []) c.args.s
 other-else t c =
     ready_tested (code.Else ∷ []) refl refl c.requires c.if-is_symbol.true c.is_symbol.ensures c.symbol_at.ensures
 
-pub other-symbol_at-requires : goal.other-symbol_at-requires
-other-symbol_at-requires t c =
-    record { tokens = c.requires.tokens; at_bound = c.requires.here }
-
-pub other-block-body-requires : goal.other-block-body-requires
-other-block-body-requires t c =
+pub other-block-requires : goal.other-block-requires
+other-block-requires t c =
     let r = c.requires in
-    let e = other-else t (goal.at.other-block-body-requires t c).Then-is_symbol in
+    let e = other-else t (goal.at.other-block-requires t c).Then-is_symbol in
     rw c.past.ensures (omega arith, ready_of r.tokens (omega arith))
 
-pub other-put_else-made-requires : goal.other-put_else-made-requires
+pub other-put_else-requires : goal.other-put_else-requires
 unfolding first rank
-other-put_else-made-requires t c =
-    let x = rw c.past.ensures at c.block-body.ensures in
+other-put_else-requires t c =
+    let x = rw c.past.ensures at c.block.ensures in
     let r = c.requires in
-    let e = other-else t (goal.at.other-put_else-made-requires t c).Then-is_symbol in
-    let h = came_call _ _ r.tokens pays_block refl e.inside x c.in-Node.is in
-    let k = c.block-body.auto.tree in
+    let e = other-else t (goal.at.other-put_else-requires t c).Then-is_symbol in
+    let h = came_call _ _ r.tokens pays_block refl e.inside x c.in_ok-first.was in
+    let k = c.block.auto.tree in
     record { spot = omega arith; keyword_lt_at = omega arith }
 
-pub other-returns-in-Node : goal.other-returns-in-Node
+pub other-returns-in_ok-first : goal.other-returns-in_ok-first
 unfolding first rank begins null
-other-returns-in-Node t c =
-    let x = rw c.past.ensures at c.block-body.ensures in
-    let e = other-else t (goal.at.other-returns-in-Node t c).Then-is_symbol in
-    let h = came_call _ _ e.tokens pays_block refl e.inside x c.in-Node.is in
-    let w = c.put_else-made.ensures in
-    record { comes = λ vs. or_first e.here e.seen (tok_mark e.here e.seen (part_then x c.in-Node.is (wrote_then (w _) (one_then (list_last (rw (w []).after h.used)))))) }
+other-returns-in_ok-first t c =
+    let x = rw c.past.ensures at c.block.ensures in
+    let e = other-else t (goal.at.other-returns-in_ok-first t c).Then-is_symbol in
+    let h = came_call _ _ e.tokens pays_block refl e.inside x c.in_ok-first.was in
+    let w = c.put_else.ensures in
+    record { comes = λ vs. or_first e.here e.seen (tok_mark e.here e.seen (part_then x c.in_ok-first.was (wrote_then (w _) (one_then (list_last (rw (w []).after h.used)))))) }
 
-pub other-returns-in-Refused : goal.other-returns-in-Refused
+pub other-returns-in_err-first : goal.other-returns-in_err-first
 unfolding begins null
-other-returns-in-Refused t c =
-    let x = rw c.past.ensures at c.block-body.ensures in
-    let e = other-else t (goal.at.other-returns-in-Refused t c).Then-is_symbol in
-    record { comes = λ vs. or_first e.here e.seen (tok_mark e.here e.seen (part_stop _ x c.in-Refused.is)) }
+other-returns-in_err-first t c =
+    let x = rw c.past.ensures at c.block.ensures in
+    let e = other-else t (goal.at.other-returns-in_err-first t c).Then-is_symbol in
+    rw (handed_on _ c.from_residual.ensures.1) (record { comes = λ vs. or_first e.here e.seen (tok_mark e.here e.seen (part_stop _ x c.in_err-first.was)) })
 
 pub other-returns-else-is_symbol : goal.other-returns-else-is_symbol
 unfolding begins null
@@ -737,25 +631,6 @@ other-returns-else-is_symbol t c =
     let r = c.requires in
     let e = learnt (code.Else ∷ []) c.if-is_symbol.false c.is_symbol.ensures c.symbol_at.ensures in
     record { comes = λ vs. or_next r.here e (absent refl) (none_last r.used) }
-
-pub range-guarded-head-requires : goal.range-guarded-head-requires
-range-guarded-head-requires t c =
-    (omega arith, c.requires.ready)
-
-pub range-put_for-made-requires : goal.range-put_for-made-requires
-range-put_for-made-requires t c =
-    let g = c.guarded-head.ensures.leads c.in-Both.is in
-    record { spot = omega arith; keyword_lt_at = omega arith }
-
-pub range-returns-in-Both : goal.range-returns-in-Both
-range-returns-in-Both t c =
-    let g = c.guarded-head.ensures.leads c.in-Both.is in
-    let w = c.put_for-made.ensures in
-    record { parts = record { comes = λ vs. g.same (act_wrote g.ready.used (w _)) }; newest = newest_wrote (w []) }
-
-pub range-returns-in-Refused : goal.range-returns-in-Refused
-range-returns-in-Refused t c =
-    record { parts = record { comes = λ vs. c.guarded-head.ensures.stops c.in-Refused.is }; newest = newest_refused }
 
 -- where the colon stands, and a Newline behind it
 rule_block-colon : (t : ℕ) (c : rule_block-Start t) → Taken c.args.src.now c.args.toks.now (code.Colon ∷ []) c.args.s
@@ -765,21 +640,18 @@ rule_block-colon t c = taken_ready (code.Colon ∷ []) refl refl c.requires.read
 rule_block-newline : (t : ℕ) (c : rule_block-Then-is_symbol t) (colon : Taken c.args.src.now c.args.toks.now (code.Colon ∷ []) c.args.s) → Taken c.args.src.now c.args.toks.now (code.Newline ∷ []) (past c.args.s)
 rule_block-newline t c colon = next_tested (code.Newline ∷ []) refl refl colon c.if-is_symbol.true c.is_symbol.ensures c.symbol_at.ensures
 
-pub rule_block-symbol_at-requires : goal.rule_block-symbol_at-requires
-rule_block-symbol_at-requires t c =
-    let d = rule_block-colon t (goal.at.rule_block-symbol_at-requires t c).Start in
-    record { tokens = d.tokens; at_bound = d.inside }
+pub rule_block-symbol_at-requires-clause-at_bound : goal.rule_block-symbol_at-requires-clause-at_bound
+rule_block-symbol_at-requires-clause-at_bound t c = (rule_block-colon t (goal.at.rule_block-symbol_at-requires-clause-at_bound t c).Start).inside
 
-pub rule_block-skip_newlines-line-requires : goal.rule_block-skip_newlines-line-requires
-rule_block-skip_newlines-line-requires t c =
-    let e = rule_block-newline t c (rule_block-colon t (goal.at.rule_block-skip_newlines-line-requires t c).Start) in
-    record { tokens = e.tokens; at_bound = e.inside }
+pub rule_block-skip_newlines-at-requires-clause-at_bound : goal.rule_block-skip_newlines-at-requires-clause-at_bound
+rule_block-skip_newlines-at-requires-clause-at_bound t c =
+    (rule_block-newline t (goal.at.rule_block-skip_newlines-at-requires-clause-at_bound t c).Then-is_symbol (rule_block-colon t (goal.at.rule_block-skip_newlines-at-requires-clause-at_bound t c).Start)).inside
 
 pub rule_block-indented-requires : goal.rule_block-indented-requires
 rule_block-indented-requires t c =
     let r = c.requires.ready in
     let e = rule_block-newline t (goal.at.rule_block-indented-requires t c).Then-is_symbol (rule_block-colon t (goal.at.rule_block-indented-requires t c).Start) in
-    let g = c.skip_newlines-line.ensures in
+    let g = c.skip_newlines-at.ensures in
     let x = run_text (code.Newline ∷ []) refl refl r.tokens g in
     (omega (arith, c.decreases, g.order, g.inside, r.tokens.whole), ready_of r.tokens (omega (arith, r.room, r.nodes, r.opened, e.used, x, g.order, g.inside)))
 
@@ -799,7 +671,7 @@ unfolding joined first begins null opens
 rule_block-returns-then-is_symbol t c =
     let d = rule_block-colon t (goal.at.rule_block-returns-then-is_symbol t c).Start in
     let e = rule_block-newline t (goal.at.rule_block-returns-then-is_symbol t c).Then-is_symbol (rule_block-colon t (goal.at.rule_block-returns-then-is_symbol t c).Start) in
-    open_room refl c.if-left-eq0.false (λ vs. tok_then d.here d.seen (or_first e.here e.seen (tok_then e.here e.seen (newlines_pass c.skip_newlines-line.ensures (c.indented.ensures.comes vs)))))
+    open_room refl c.if-left-eq0.false (λ vs. tok_then d.here d.seen (or_first e.here e.seen (tok_then e.here e.seen (newlines_pass c.skip_newlines-at.ensures (c.indented.ensures.comes vs)))))
 
 pub rule_block-returns-else-is_symbol : goal.rule_block-returns-else-is_symbol
 unfolding joined first begins null opens
@@ -808,39 +680,78 @@ rule_block-returns-else-is_symbol t c =
     let e = learnt (code.Newline ∷ []) c.if-is_symbol.false c.is_symbol.ensures c.symbol_at.ensures in
     open_room refl c.if-left-eq0.false (λ vs. tok_then d.here d.seen (or_last d.inside e refl refl (λ f. flat (part_stop _ (not_called d.inside d.used f refl) refl)) (list_through _ c.simples.ensures vs)))
 
--- where `class` stands, and the name behind it
+-- where `class` stands, the name behind it, the colon and a Newline
 rule_class-class : (t : ℕ) (c : rule_class-Start t) → Taken c.args.src.now c.args.toks.now (code.Class ∷ []) c.args.s
 unfolding first
 rule_class-class t c = taken_ready (code.Class ∷ []) refl refl c.requires.ready c.requires.begun.seen
 
-rule_class-name : (t : ℕ) (c : rule_class-Then-is_name t) (class : Taken c.args.src.now c.args.toks.now (code.Class ∷ []) c.args.s) → Taken c.args.src.now c.args.toks.now names (past c.args.s)
-rule_class-name t c class = next_tested names refl refl class c.if-is_name.true c.is_name.ensures c.symbol_at.ensures
+rule_class-name : (t : ℕ) (c : rule_class-In_ok-named t) → Taken c.args.src.now c.args.toks.now (code.Class ∷ []) c.args.s → Stepped c.args.src.now c.args.toks.now names (opened_past c.args.s) c.in_ok-named.named
+rule_class-name t c k = stepped names refl refl k.tokens k.inside k.used c.take_name.ensures c.in_ok-named.was
 
-pub rule_class-symbol_at-requires : goal.rule_class-symbol_at-requires
-rule_class-symbol_at-requires t c =
-    let k = rule_class-class t (goal.at.rule_class-symbol_at-requires t c).Start in
-    record { tokens = k.tokens; at_bound = k.inside }
+rule_class-colon : (t : ℕ) (c : rule_class-In_ok-colon t) → Stepped c.args.src.now c.args.toks.now names (opened_past c.args.s) c.in_ok-named.named → Stepped c.args.src.now c.args.toks.now (code.Colon ∷ []) c.in_ok-named.named c.in_ok-colon.colon
+rule_class-colon t c d = stepped_next (code.Colon ∷ []) refl refl d c.take.ensures c.in_ok-colon.was
 
-pub rule_class-suite-requires : goal.rule_class-suite-requires
-rule_class-suite-requires t c =
+rule_class-newline : (t : ℕ) (c : rule_class-In_ok-on t) → Stepped c.args.src.now c.args.toks.now (code.Colon ∷ []) c.in_ok-named.named c.in_ok-colon.colon → Stepped c.args.src.now c.args.toks.now (code.Newline ∷ []) c.in_ok-colon.colon c.in_ok-on.on
+rule_class-newline t c e = stepped_next (code.Newline ∷ []) refl refl e c.take-2.ensures c.in_ok-on.was
+
+pub rule_class-take_name-requires-clause-at_bound : goal.rule_class-take_name-requires-clause-at_bound
+rule_class-take_name-requires-clause-at_bound t c = (rule_class-class t (goal.at.rule_class-take_name-requires-clause-at_bound t c).Start).inside
+
+pub rule_class-returns-in_err-named-clause-rules : goal.rule_class-returns-in_err-named-clause-rules
+unfolding joined plain first opens
+rule_class-returns-in_err-named-clause-rules t c =
+    let k = rule_class-class t (goal.at.rule_class-returns-in_err-named-clause-rules t c).Start in
+    rw (handed_on _ c.from_residual.ensures.1) (open_plain refl (λ vs. tok_mark k.here k.seen (flat (step_not k.inside k.used c.take_name.ensures c.in_err-named.was refl))))
+
+pub rule_class-take-requires-clause-at_bound : goal.rule_class-take-requires-clause-at_bound
+rule_class-take-requires-clause-at_bound t c =
+    (rule_class-name t (goal.at.rule_class-take-requires-clause-at_bound t c).In_ok-named (rule_class-class t (goal.at.rule_class-take-requires-clause-at_bound t c).Start)).inside
+
+pub rule_class-returns-in_err-colon-clause-rules : goal.rule_class-returns-in_err-colon-clause-rules
+unfolding joined plain first opens
+rule_class-returns-in_err-colon-clause-rules t c =
+    let k = rule_class-class t (goal.at.rule_class-returns-in_err-colon-clause-rules t c).Start in
+    let d = rule_class-name t (goal.at.rule_class-returns-in_err-colon-clause-rules t c).In_ok-named k in
+    rw (handed_on _ c.from_residual-in_err-colon.ensures.1) (open_plain refl (λ vs. tok_mark k.here k.seen (flat (step_mark d (step_not d.inside d.used c.take.ensures c.in_err-colon.was refl)))))
+
+pub rule_class-take-requires-2-clause-at_bound : goal.rule_class-take-requires-2-clause-at_bound
+rule_class-take-requires-2-clause-at_bound t c =
+    let d = rule_class-name t (goal.at.rule_class-take-requires-2-clause-at_bound t c).In_ok-named (rule_class-class t (goal.at.rule_class-take-requires-2-clause-at_bound t c).Start) in
+    (rule_class-colon t (goal.at.rule_class-take-requires-2-clause-at_bound t c).In_ok-colon d).inside
+
+pub rule_class-returns-in_err-on-clause-rules : goal.rule_class-returns-in_err-on-clause-rules
+unfolding joined plain first opens
+rule_class-returns-in_err-on-clause-rules t c =
+    let k = rule_class-class t (goal.at.rule_class-returns-in_err-on-clause-rules t c).Start in
+    let d = rule_class-name t (goal.at.rule_class-returns-in_err-on-clause-rules t c).In_ok-named k in
+    let e = rule_class-colon t (goal.at.rule_class-returns-in_err-on-clause-rules t c).In_ok-colon d in
+    rw (handed_on _ c.from_residual-in_err-on.ensures.1) (open_plain refl (λ vs. tok_mark k.here k.seen (flat (step_mark d (step_then e (step_not e.inside e.used c.take-2.ensures c.in_err-on.was refl))))))
+
+pub rule_class-skip_newlines-at-requires-clause-at_bound : goal.rule_class-skip_newlines-at-requires-clause-at_bound
+rule_class-skip_newlines-at-requires-clause-at_bound t c =
+    let d = rule_class-name t (goal.at.rule_class-skip_newlines-at-requires-clause-at_bound t c).In_ok-named (rule_class-class t (goal.at.rule_class-skip_newlines-at-requires-clause-at_bound t c).Start) in
+    let e = rule_class-colon t (goal.at.rule_class-skip_newlines-at-requires-clause-at_bound t c).In_ok-colon d in
+    (rule_class-newline t (goal.at.rule_class-skip_newlines-at-requires-clause-at_bound t c).In_ok-on e).inside
+
+pub rule_class-class_body-requires : goal.rule_class-class_body-requires
+rule_class-class_body-requires t c =
     let r = c.requires.ready in
-    let e = rule_class-name t (goal.at.rule_class-suite-requires t c).Then-is_name (rule_class-class t (goal.at.rule_class-suite-requires t c).Start) in
-    rw c.past.ensures (omega arith, (ready_of r.tokens (omega arith), omega arith))
+    let k = rule_class-class t (goal.at.rule_class-class_body-requires t c).Start in
+    let d = rule_class-name t (goal.at.rule_class-class_body-requires t c).In_ok-named k in
+    let e = rule_class-colon t (goal.at.rule_class-class_body-requires t c).In_ok-colon d in
+    let f = rule_class-newline t (goal.at.rule_class-class_body-requires t c).In_ok-on e in
+    let n = c.skip_newlines-at.ensures in
+    let x = run_text (code.Newline ∷ []) refl refl r.tokens n in
+    (omega arith, (ready_of r.tokens (omega arith), omega arith))
 
-pub rule_class-returns-then-is_name : goal.rule_class-returns-then-is_name
+pub rule_class-returns-clause-rules : goal.rule_class-returns-clause-rules
 unfolding joined plain first opens
-rule_class-returns-then-is_name t c =
-    let x = rw c.past.ensures at c.suite.ensures in
-    let d = rule_class-class t (goal.at.rule_class-returns-then-is_name t c).Start in
-    let e = rule_class-name t (goal.at.rule_class-returns-then-is_name t c).Then-is_name (rule_class-class t (goal.at.rule_class-returns-then-is_name t c).Start) in
-    record { rules = open_plain refl (λ vs. tok_mark d.here d.seen (flat (tok_mark e.here e.seen (x.parts.comes vs)))); newest = x.newest }
-
-pub rule_class-returns-else-is_name : goal.rule_class-returns-else-is_name
-unfolding joined plain first opens
-rule_class-returns-else-is_name t c =
-    let d = rule_class-class t (goal.at.rule_class-returns-else-is_name t c).Start in
-    let e = learnt names c.if-is_name.false c.is_name.ensures c.symbol_at.ensures in
-    record { rules = open_plain refl (λ vs. tok_mark d.here d.seen (flat (tok_not d.inside d.used e refl))); newest = newest_refused }
+rule_class-returns-clause-rules t c =
+    let k = rule_class-class t (goal.at.rule_class-returns-clause-rules t c).Start in
+    let d = rule_class-name t (goal.at.rule_class-returns-clause-rules t c).In_ok-named k in
+    let e = rule_class-colon t (goal.at.rule_class-returns-clause-rules t c).In_ok-colon d in
+    let f = rule_class-newline t (goal.at.rule_class-returns-clause-rules t c).In_ok-on e in
+    open_plain refl (λ vs. tok_mark k.here k.seen (flat (step_mark d (step_then e (step_then f (newlines_pass c.skip_newlines-at.ensures (c.class_body.ensures.parts.comes vs)))))))
 
 -- what begins a Line that is not simple
 abbrev rule_line-keywords : List ℕ
@@ -849,10 +760,6 @@ rule_line-keywords = code.Class ∷ code.Def ∷ code.If ∷ code.While ∷ code
 -- where a keyword stands
 rule_line-keyword : (t : ℕ) (c : rule_line-After-symbol_at t) (k : ℕ) → mem code.Eof (k ∷ []) ≡ false → mem code.String (k ∷ []) ≡ false → mem k (k ∷ []) ≡ true → c.symbol_at.result ≡ k → Taken c.args.src.now c.args.toks.now (k ∷ []) c.args.s
 rule_line-keyword t c k f g i e = taken_ready (k ∷ []) f g c.requires.ready (coded (k ∷ []) k c.symbol_at.ensures e i)
-
-pub rule_line-symbol_at-requires : goal.rule_line-symbol_at-requires
-rule_line-symbol_at-requires t c =
-    record { tokens = c.requires.ready.tokens; at_bound = c.requires.ready.here }
 
 pub rule_line-rule_class-requires : goal.rule_line-rule_class-requires
 unfolding first
@@ -884,11 +791,6 @@ rule_line-each-requires t c =
     let r = c.requires.ready in
     let l = rule_line-keyword t (goal.at.rule_line-each-requires t c).After-symbol_at code.For refl refl refl c.in-5.is in
     rw c.past-on.ensures (omega arith, (ready_of r.tokens (omega arith), omega arith))
-
-pub rule_line-simples-requires : goal.rule_line-simples-requires
-rule_line-simples-requires t c =
-    let r = c.requires.ready in
-    ready_of r.tokens (omega arith)
 
 pub rule_line-returns-in-12 : goal.rule_line-returns-in-12
 unfolding joined plain first begins null opens
@@ -941,55 +843,3 @@ rule_line-returns-in_default t c =
     let x = c.symbol_at.ensures in
     let a = not_first 12 (code.Def ∷ code.If ∷ code.While ∷ code.For ∷ []) x (omega arith) ∙ not_first 7 (code.If ∷ code.While ∷ code.For ∷ []) x (omega arith) ∙ not_first 1 (code.While ∷ code.For ∷ []) x (omega arith) ∙ not_first 4 (code.For ∷ []) x (omega arith) ∙ not_first 5 [] x (omega arith) in
     open_plain refl (λ vs. or_next r.here a (starts (of_second rule_line-keywords first_simple (symbol_at c.args.src.now c.args.toks.now c.args.s.at.0) a c.requires.begun.seen)) (c.simples.ensures.comes vs))
-
--- where the colon stands, and a Newline behind it
-suite-colon : (t : ℕ) (c : suite-Then-is_symbol t) → Taken c.args.src.now c.args.toks.now (code.Colon ∷ []) c.args.s
-suite-colon t c =
-    ready_tested (code.Colon ∷ []) refl refl c.requires.ready c.if-is_symbol.true c.is_symbol.ensures c.symbol_at.ensures
-
-suite-newline : (t : ℕ) (c : suite-Then-is_symbol-2 t) (colon : Taken c.args.src.now c.args.toks.now (code.Colon ∷ []) c.args.s) → Taken c.args.src.now c.args.toks.now (code.Newline ∷ []) (past c.args.s)
-suite-newline t c colon =
-    next_tested (code.Newline ∷ []) refl refl colon c.if-is_symbol-2.true c.is_symbol-then-is_symbol.ensures (rw c.past-on.ensures at c.symbol_at-then-is_symbol.ensures)
-
-pub suite-symbol_at-requires : goal.suite-symbol_at-requires
-suite-symbol_at-requires t c =
-    let r = c.requires.ready in
-    record { tokens = r.tokens; at_bound = r.here }
-
-pub suite-symbol_at-requires-then-is_symbol : goal.suite-symbol_at-requires-then-is_symbol
-suite-symbol_at-requires-then-is_symbol t c =
-    let d = suite-colon t (goal.at.suite-symbol_at-requires-then-is_symbol t c).Then-is_symbol in
-    rw c.past-on.ensures (record { tokens = d.tokens; at_bound = d.inside })
-
-pub suite-skip_newlines-line-requires : goal.suite-skip_newlines-line-requires
-suite-skip_newlines-line-requires t c =
-    let e = suite-newline t (goal.at.suite-skip_newlines-line-requires t c).Then-is_symbol-2 (suite-colon t (goal.at.suite-skip_newlines-line-requires t c).Then-is_symbol) in
-    rw c.past-on.ensures (record { tokens = e.tokens; at_bound = e.inside })
-
-pub suite-class_body-requires : goal.suite-class_body-requires
-suite-class_body-requires t c =
-    let p = c.requires.keyword_lt_at in
-    let r = c.requires.ready in
-    let e = suite-newline t (goal.at.suite-class_body-requires t c).Then-is_symbol-2 (suite-colon t (goal.at.suite-class_body-requires t c).Then-is_symbol) in
-    let n = rw c.past-on.ensures at c.skip_newlines-line.ensures in
-    let x = run_text (code.Newline ∷ []) refl refl r.tokens n in
-    (omega arith, (ready_of r.tokens (omega arith), omega arith))
-
-pub suite-returns-then-is_symbol-2 : goal.suite-returns-then-is_symbol-2
-suite-returns-then-is_symbol-2 t c =
-    let d = suite-colon t (goal.at.suite-returns-then-is_symbol-2 t c).Then-is_symbol in
-    let e = suite-newline t (goal.at.suite-returns-then-is_symbol-2 t c).Then-is_symbol-2 (suite-colon t (goal.at.suite-returns-then-is_symbol-2 t c).Then-is_symbol) in
-    let n = rw c.past-on.ensures at c.skip_newlines-line.ensures in
-    record { parts = record { comes = λ vs. tok_then d.here d.seen (tok_then e.here e.seen (newlines_pass n (c.class_body.ensures.parts.comes vs))) }; newest = c.class_body.ensures.newest }
-
-pub suite-returns-else-is_symbol-2 : goal.suite-returns-else-is_symbol-2
-suite-returns-else-is_symbol-2 t c =
-    let d = suite-colon t (goal.at.suite-returns-else-is_symbol-2 t c).Then-is_symbol in
-    let e = learnt (code.Newline ∷ []) c.if-is_symbol-2.false c.is_symbol-then-is_symbol.ensures (rw c.past-on.ensures at c.symbol_at-then-is_symbol.ensures) in
-    rw c.past-on.ensures (record { parts = record { comes = λ vs. tok_then d.here d.seen (tok_not d.inside d.used e refl) }; newest = newest_refused })
-
-pub suite-returns-else-is_symbol : goal.suite-returns-else-is_symbol
-suite-returns-else-is_symbol t c =
-    let r = c.requires.ready in
-    let d = learnt (code.Colon ∷ []) c.if-is_symbol.false c.is_symbol.ensures c.symbol_at.ensures in
-    record { parts = record { comes = λ vs. tok_not r.here r.used d refl }; newest = newest_refused }

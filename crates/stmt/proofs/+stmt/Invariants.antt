@@ -14,9 +14,6 @@ decreases-again l = 8 * (length l.toks.now - 3 * l.s.at.0) + 1
 abbrev pub decreases-block : goal.decreases-block
 decreases-block l = 8 * (length l.toks.now - 3 * l.s.at.0) + 1
 
-abbrev pub decreases-branch : goal.decreases-branch
-decreases-branch l = 8 * (length l.toks.now - 3 * l.s.at.0) + 2
-
 abbrev pub decreases-class_body : goal.decreases-class_body
 decreases-class_body l = 8 * (length l.toks.now - 3 * l.s.at.0) + 0
 
@@ -34,9 +31,6 @@ decreases-elifs l = 8 * (length l.toks.now - 3 * l.s.at.0) + 1
 
 abbrev pub decreases-further : goal.decreases-further
 decreases-further l = 8 * (length l.toks.now - 3 * l.s.at.0) + 2
-
-abbrev pub decreases-given : goal.decreases-given
-decreases-given l = 8 * (length l.toks.now - 3 * l.s.at.0) + 0
 
 abbrev pub decreases-guarded : goal.decreases-guarded
 decreases-guarded l = 8 * (length l.toks.now - 3 * l.s.at.0) + 0
@@ -62,9 +56,6 @@ decreases-named l = 8 * (length l.toks.now - 3 * l.s.at.0) + 0
 abbrev pub decreases-other : goal.decreases-other
 decreases-other l = 8 * (length l.toks.now - 3 * l.s.at.0) + 0
 
-abbrev pub decreases-range : goal.decreases-range
-decreases-range l = 8 * (length l.toks.now - 3 * l.s.at.0) + 1
-
 abbrev pub decreases-rule_block : goal.decreases-rule_block
 decreases-rule_block l = 8 * (length l.toks.now - 3 * l.s.at.0) + 0
 
@@ -74,14 +65,11 @@ decreases-rule_class l = 8 * (length l.toks.now - 3 * l.s.at.0) + 0
 abbrev pub decreases-rule_line : goal.decreases-rule_line
 decreases-rule_line l = 8 * (length l.toks.now - 3 * l.s.at.0) + 1
 
-abbrev pub decreases-suite : goal.decreases-suite
-decreases-suite l = 8 * (length l.toks.now - 3 * l.s.at.0) + 0
+abbrev pub invariant-further-loop-last : goal.invariant-further-loop-last
+invariant-further-loop-last l = Listing l.src l.toks l.left (others l.methods) l.first.0 l.initial.last.0 l.initial.st l.initial.tree l.last.0 l.st l.tree
 
-abbrev pub invariant-further-loop-tree : goal.invariant-further-loop-tree
-invariant-further-loop-tree l = Listing l.src l.toks l.left (others l.methods) l.first.0 l.initial.last.0 l.initial.st l.initial.tree l.last.0 l.st l.tree
-
-abbrev pub decreases-further-loop-tree : goal.decreases-further-loop-tree
-decreases-further-loop-tree l = eof_at l.toks - l.st.at.0
+abbrev pub decreases-further-loop-last : goal.decreases-further-loop-last
+decreases-further-loop-last l = eof_at l.toks - l.st.at.0
 
 abbrev pub invariant-lines-loop-n : goal.invariant-lines-loop-n
 invariant-lines-loop-n l = Reading l.src l.toks l.left l.initial.st l.initial.tree l.gathered l.st l.tree

@@ -11,11 +11,8 @@ use mathlib.Core.Path.{refl}
 use native.Mathlib.Omega.{arith}
 use Rattle.expr.proofs.parameters.names.Goals as goal
 
-pub past-requires : goal.past-requires
-past-requires c = omega arith
-
-pub put_named-made-requires : goal.put_named-made-requires
-put_named-made-requires c =
+pub put_named-requires : goal.put_named-requires
+put_named-requires c =
     let r = c.requires in
     let m = ready_tested names refl refl r c.if-is_name.true c.is_name.ensures c.symbol_at.ensures in
     rw c.past.ensures (omega arith)
@@ -24,7 +21,7 @@ pub names_rest-requires : goal.names_rest-requires
 names_rest-requires c =
     let r = c.requires in
     let m = ready_tested names refl refl r c.if-is_name.true c.is_name.ensures c.symbol_at.ensures in
-    let w = rw c.past.ensures at (c.put_named-made.ensures c.args.src.now) in
+    let w = rw c.past.ensures at (c.put_named.ensures c.args.src.now) in
     record { ready = rw w.after (ready_of r.tokens (omega arith)); first_lt_nodes = rw w.after (omega (arith, w.node)) }
 
 pub returns-then-is_name : goal.returns-then-is_name
@@ -32,7 +29,7 @@ unfolding begins null
 returns-then-is_name c =
     let r = c.requires in
     let m = ready_tested names refl refl r c.if-is_name.true c.is_name.ensures c.symbol_at.ensures in
-    let w = rw c.past.ensures at (c.put_named-made.ensures c.args.src.now) in
+    let w = rw c.past.ensures at (c.put_named.ensures c.args.src.now) in
     λ room. record { comes = λ vs. or_first m.here m.seen (flat (tok_then m.here m.seen (wrote_then w (one_then ((c.names_rest.ensures room).comes vs))))) }
 
 pub returns-else-is_name : goal.returns-else-is_name

@@ -8,8 +8,8 @@ use Prim.Native.Nat.{ℕ, ◌-◌}
 use Rattle.joint.proofs.Loops.{Listing}
 use Rattle.expr.proofs.parameters.names_rest.Given as goal
 
-abbrev pub invariant-loop-on : goal.invariant-loop-on
-invariant-loop-on l = (room : ℕ) → Listing l.src l.toks room (tail Comma (more name)) l.first.0 l.initial.last.0 l.initial.st l.initial.tree l.last.0 l.st l.tree
+abbrev pub invariant-loop-last : goal.invariant-loop-last
+invariant-loop-last l = (room : ℕ) → Listing l.src l.toks room (tail Comma (more name)) l.first.0 l.initial.last.0 l.initial.st l.initial.tree l.last.0 l.st l.tree
 
-abbrev pub decreases-loop-on : goal.decreases-loop-on
-decreases-loop-on l = eof_at l.toks - l.st.at.0
+abbrev pub decreases-loop-last : goal.decreases-loop-last
+decreases-loop-last l = eof_at l.toks - l.st.at.0

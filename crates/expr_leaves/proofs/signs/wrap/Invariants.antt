@@ -1,9 +1,6 @@
--- `expr_leaves::wrap` meets its contract: a turn is a step of the machine's `wrap`. The measure is k.
+-- `expr_leaves::wrap` meets its contract: a turn is a step of the machine's `wrap`.
 use Rattle.expr_leaves.proofs.SignRuns.{Inv}
 use Rattle.expr_leaves.proofs.signs.wrap.Given as goal
 
 abbrev pub invariant-loop-k : goal.invariant-loop-k
-invariant-loop-k l = Inv l.toks l.initial.tree l.from l.initial.k l.initial.n l.initial.st l.tree l.k l.n l.st
-
-abbrev pub decreases-loop-k : goal.decreases-loop-k
-decreases-loop-k l = l.k
+invariant-loop-k l = Inv l.toks l.fn.tree l.fn.first.0 l.fn.end.0 l.fn.node l.fn.s l.tree l.k l.made.0 l.made.1

@@ -3,4 +3,4 @@ use Rattle.expr_leaves.proofs.Acts.{apply_wrote}
 use Rattle.expr_leaves.proofs.write.put_apply.Goals as goal
 
 pub returns : goal.returns
-returns c = apply_wrote c.requires.spot c.put_begun.ensures c.requires.n_lt_nodes
+returns c = apply_wrote c.requires.spot (rw c.of.ensures at c.put_begun.ensures) c.requires.n_lt_nodes

@@ -1,6 +1,8 @@
--- `expr_leaves::put_empty` does the action `empty`.
-use Rattle.expr_leaves.proofs.Acts.{empty_wrote}
+-- `expr_leaves::put_empty` does the action `empty`, which is that of a list that is none.
+use Rattle.pyhyeon.specs.Machine.{number}
+use Rattle.pyhyeon.specs.Action.{perform}
 use Rattle.expr_leaves.proofs.write.put_empty.Goals as goal
 
 pub returns : goal.returns
-returns c = empty_wrote c.requires.spot c.put_opened.ensures c.requires.opener_lt_at
+unfolding perform number
+returns c src = let w = c.put_enclosed.ensures src in record { node = w.node; after = w.after; same = w.same; frame = w.frame }

@@ -3,4 +3,4 @@ use Rattle.expr_leaves.proofs.Acts.{pair_wrote}
 use Rattle.expr_leaves.proofs.write.put_pair.Goals as goal
 
 pub returns : goal.returns
-returns c = pair_wrote c.requires.spot c.put_begun.ensures c.requires.key_lt_nodes
+returns c = pair_wrote c.requires.spot (rw c.of.ensures at c.put_begun.ensures) c.requires.key_lt_nodes

@@ -1,28 +1,17 @@
 -- `stmt::whole::end` meets its contract: the end of a script, and its Program.
+use mathlib.Core.Path.{refl}
 use mathlib.Core.List.{[], ◌∷◌}
 use Rattle.token.specs.Code as code
 use Rattle.lookahead.proofs.Tests.{learnt}
 use Rattle.joint.proofs.Ends.{act_wrote}
 use Rattle.joint.proofs.Seen.{see_then, see_not}
-use native.Mathlib.Omega.{arith}
-use mathlib.Core.Path.{refl}
 use Rattle.stmt.proofs.whole.end.Goals as goal
-
-pub symbol_at-requires : goal.symbol_at-requires
-symbol_at-requires c =
-    record { tokens = c.requires.tokens; at_bound = c.requires.here }
-
-pub put_program-made-requires : goal.put_program-made-requires
-put_program-made-requires c =
-    let r = c.requires in
-    let f = r.tokens.few in
-    record { src_len_bound = r.tokens.small; nodes_in_bounds = omega arith }
 
 pub returns-then-is_symbol : goal.returns-then-is_symbol
 returns-then-is_symbol c =
     let r = c.requires in
     let e = learnt (code.Eof ∷ []) c.if-is_symbol.true c.is_symbol.ensures c.symbol_at.ensures in
-    λ room. record { comes = λ vs. see_then r.here e (act_wrote r.used (c.put_program-made.ensures _)) }
+    λ room. record { comes = λ vs. see_then r.here e (act_wrote r.used (c.put_program.ensures _)) }
 
 pub returns-else-is_symbol : goal.returns-else-is_symbol
 returns-else-is_symbol c =

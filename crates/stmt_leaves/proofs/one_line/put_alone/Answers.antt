@@ -8,4 +8,4 @@ use Rattle.stmt_leaves.proofs.one_line.put_alone.Goals as goal
 
 pub returns : goal.returns
 unfolding perform number
-returns c src = opened_wrote c.requires src c.put_opened.ensures (let h = c.requires.some in omega arith) (λ vs. refl)
+returns c src = opened_wrote c.requires src (rw c.of.ensures at c.put_opened.ensures) (let h = c.requires.some in omega arith) (λ vs. refl)

@@ -7,4 +7,4 @@ use Rattle.stmt_leaves.proofs.one_line.put_expr.Goals as goal
 
 pub returns : goal.returns
 unfolding perform number
-returns c src = begun_wrote c.requires.spot src c.put_begun.ensures c.requires.n_lt_nodes (λ vs. refl)
+returns c src = begun_wrote c.requires.spot src (rw c.of.ensures at c.put_begun.ensures) c.requires.n_lt_nodes (λ vs. refl)

@@ -7,4 +7,4 @@ use Rattle.stmt_leaves.proofs.one_line.put_return.Goals as goal
 
 pub returns : goal.returns
 unfolding perform number
-returns c src = opened_wrote c.requires.spot src c.put_opened.ensures c.requires.keyword_lt_at (λ vs. refl)
+returns c src = opened_wrote c.requires.spot src (rw c.of.ensures at c.put_opened.ensures) c.requires.keyword_lt_at (λ vs. refl)
