@@ -8,19 +8,16 @@ use native.Mathlib.Omega.{arith}
 use lib.Dec.{ltb}
 use lib.ListN.{length, drop, replicate, get_or-append}
 use lib.Seq.{take-append-le}
+use Rattle.std.specs.Prelude.{Ok, Err, Option, Some, None}
 use Rattle.areas.specs.Area.{area, token_area}
 use Rattle.utf8.specs.Table.{utf8_error_lem}
-use Rattle.utf8.specs.declared.Utf8.{Utf8}
-use Rattle.utf8.specs.declared.Utf8.TheVariants.{WellFormed, IllFormed}
 use Rattle.tokens.specs.Token.{Token}
 use Rattle.lexer.specs.Scan.{Scan, scanned, refused, token_list}
 use Rattle.ast.specs.Node.{Node}
 use Rattle.ast.specs.Words.{node_at, nodes_of}
 use Rattle.ast.proofs.Tabulate.{tabulate_same}
 use Rattle.pyhyeon.specs.Reading.{Descended, Accepted, TooDeep, Misfit, descent}
-use Rattle.reader.specs.declared.Answer.{Answer}
-use Rattle.reader.specs.declared.Answer.TheVariants.{Tree, No, Stopped}
-use Rattle.reader.specs.Answer.{numbers_of, written}
+use Rattle.reader.specs.Answer.{Answer, numbers_of, written}
 use Rattle.reader.specs.Outcome.{Outcome, Area, kept, holds, records, after, untouched, of_descent, of_scan, of_utf8, tree_area, outcome}
 use Rattle.reader.specs.Reads.{Reads}
 use Rattle.printing.specs.Wrote.{Shows}
@@ -28,10 +25,9 @@ use Rattle.listing.specs.Listing.{printed, filled, printed_outcome}
 
 -- a tree's words are its header's eight and eight for each node
 abbrev Sized : Answer → Area → Type 0
-Sized (Tree t n x o) kept = ⊥
-Sized (Tree t n x o) (holds ws) = length ws ≡ 8 + 8 * n
-Sized (No number place) a = Unit {0}
-Sized (Stopped number place t n o) a = Unit {0}
+Sized (Ok t) kept = ⊥
+Sized (Ok t) (holds ws) = length ws ≡ 8 + 8 * t.nodes
+Sized (Err s) a = Unit {0}
 
 record IsSized (o : Outcome) : Type 0 where
   sized : Sized o.answer o.tree
@@ -49,9 +45,9 @@ by_scan : (src : List ℕ) (s : Scan) → IsSized (of_scan src s)
 by_scan src (refused number place) = record { sized = tt }
 by_scan src (scanned ts bs) = by_descent (length src) ts bs (descent src ts)
 
-by_utf8 : (src : List ℕ) (u : Utf8) → IsSized (of_utf8 src u)
-by_utf8 src (IllFormed place) = record { sized = tt }
-by_utf8 src WellFormed = by_scan src (token_list src)
+by_utf8 : (src : List ℕ) (u : Option ℕ) → IsSized (of_utf8 src u)
+by_utf8 src (Some place) = record { sized = tt }
+by_utf8 src None = by_scan src (token_list src)
 
 asked : (p q r s : Bool) (o : Outcome) → IsSized o → IsSized (cond p (untouched 1 0) (cond q (untouched 2 0) (cond r (untouched 3 0) (cond s (untouched 4 0) o))))
 asked true q r s o h = record { sized = tt }
@@ -78,18 +74,16 @@ nodes_front ws rest n h = tabulate_same (node_at (ws ++ rest)) (node_at ws) 0 n 
 
 printed_front : (r : Answer) (a : Area) (size : ℕ) (before : List ℕ) → Sized r a → printed r (after a size before) ≡ printed r (filled a)
 unfolding printed area
-printed_front (Tree t n x o) kept size before s = absurd s
-printed_front (Tree t n x o) (holds ws) size before s =
+printed_front (Ok t) kept size before s = absurd s
+printed_front (Ok t) (holds ws) size before s =
     let rest = replicate (size - length ws) 0 ++ drop size before in
-    rw (append_assoc ws (replicate (size - length ws) 0) (drop size before), take-append-le 8 ws rest (omega arith), nodes_front ws rest n (omega arith))
-printed_front (No number place) a size before s = refl
-printed_front (Stopped number place t n o) a size before s = refl
+    rw (append_assoc ws (replicate (size - length ws) 0) (drop size before), take-append-le 8 ws rest (omega arith), nodes_front ws rest t.nodes (omega arith))
+printed_front (Err e) a size before s = refl
 
 -- an answer shows no more nodes than were written
 shown_few : (r : Answer) → (numbers_of r).nodes ≤ written r
-shown_few (Tree t n x o) = omega arith
-shown_few (No number place) = omega arith
-shown_few (Stopped number place t n o) = omega arith
+shown_few (Ok t) = omega arith
+shown_few (Err s) = omega arith
 
 -- What the reader answered for a source, with slices of these lengths.
 module _ (src : List ℕ) (r : Answer) (tokens₀ text₀ tree₀ tokens text tree : List ℕ) (h : Reads src r tokens₀ text₀ tree₀ tokens text tree) where

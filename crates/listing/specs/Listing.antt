@@ -1,19 +1,18 @@
 -- What the program prints for a source: "The program reads standard input up to 1,023 bytes and prints the header, then index and record per node ..
 -- (.. a refusal: `no`, number, place; longer input: number 1, place 0)" (01, Scripts).
 -- Assumes nothing.
-use Rattle.std.specs.Prelude.{ℕ, cond, List, [], ltb, length, take}
+use Rattle.std.specs.Prelude.{ℕ, cond, List, [], ltb, Ok, Err, length, take}
 use Rattle.areas.specs.Area.{token_area}
 use Rattle.ast.specs.Words.{nodes_of}
-use Rattle.reader.specs.declared.Answer.{Answer}
-use Rattle.reader.specs.declared.Answer.TheVariants.{Tree, No, Stopped}
+use Rattle.source.specs.Reasons.{number_of}
+use Rattle.reader.specs.Answer.{Answer}
 use Rattle.reader.specs.Outcome.{Outcome, Area, kept, holds, tree_area, outcome}
 use Rattle.printing.specs.Printed.{printed_tree, printed_no}
 
 -- an answer, with the words of its tree: the header's eight, then N records
 unfoldable pub printed : Answer → List ℕ → List ℕ
-printed (Tree t n x o) tree = printed_tree (take 8 tree) (nodes_of tree n)
-printed (No number place) tree = printed_no number place
-printed (Stopped number place t n o) tree = printed_no number place
+printed (Ok t) tree = printed_tree (take 8 tree) (nodes_of tree t.nodes)
+printed (Err s) tree = printed_no (number_of s.refusal.reason) s.refusal.place
 
 -- the words that the reader filled in
 abbrev pub filled : Area → List ℕ

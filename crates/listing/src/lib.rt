@@ -4,10 +4,13 @@
 ghost use Rattle.std.specs.Prelude.{◌+◌, ◌*◌, ◌≤◌, length, take};
 ghost use Rattle.reader.specs.Answer.{numbers_of};
 ghost use Rattle.reader.specs.Outcome.{outcome};
+ghost use Rattle.source.specs.Reasons.{number_of};
+ghost use Rattle.printing.specs.Printed.{printed_no};
 ghost use Rattle.printing.specs.Wrote.{Shows};
 ghost use Rattle.listing.specs.Listing.{printed, printed_outcome, listing};
 
 use reader::Answer;
+use source::{Reason, Refusal};
 
 // "up to 1,023 bytes"
 pub const MOST: usize = 1023;
@@ -15,25 +18,20 @@ pub const MOST: usize = 1023;
 // What the buffer must hold: 1,023 bytes have at most 2,047 nodes, a node's line takes at most 99 bytes, and the header's at most 88.
 pub const ROOM: usize = 202741;
 
+fn print_refusal(refusal: Refusal, out: &mut [u8]) -> usize
+    requires { 35 ≤ length out.old }
+    ensures { Shows (printed_no (number_of refusal.reason) refusal.place) out.old out.new result }
+{
+    printing::print_no(refusal.reason.number(), refusal.place, out)
+}
+
 fn print(answer: Answer, tree: &[u32], out: &mut [u8]) -> usize
     requires { (8 * (numbers_of answer).nodes + 8 ≤ length tree.now) × (99 * (numbers_of answer).nodes + 88 ≤ length out.old) }
     ensures { Shows (printed answer tree.now) out.old out.new result }
 {
     match answer {
-        Answer::Tree {
-            tokens: _,
-            nodes,
-            text: _,
-            openings: _,
-        } => printing::print_tree(tree, nodes, out),
-        Answer::No { number, place } => printing::print_no(number, place, out),
-        Answer::Stopped {
-            number,
-            place,
-            tokens: _,
-            nodes: _,
-            openings: _,
-        } => printing::print_no(number, place, out),
+        Ok(found) => printing::print_tree(tree, found.nodes, out),
+        Err(stop) => print_refusal(stop.refusal, out),
     }
 }
 
@@ -57,7 +55,11 @@ pub fn list(script: &[u8; MOST + 1], n: usize, out: &mut [u8; ROOM]) -> usize
 {
     let bytes: &[u8] = script;
     if MOST < n {
-        return printing::print_no(1, 0, out);
+        let refusal = Refusal {
+            reason: Reason::TooLong,
+            place: 0,
+        };
+        return print_refusal(refusal, out);
     }
     read(&bytes[..n], out)
 }

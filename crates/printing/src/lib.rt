@@ -1,7 +1,8 @@
 // The printed form of a tree or of a refusal, written into a lent buffer.
 //
 // Each writer writes at a place, each byte once, and answers the place behind what it wrote. Its contract, `Wrote`, says which bytes those are, and
-// that the rest of the buffer is as it was.
+// that the rest of the buffer is as it was. The bytes are written by hand, since nothing is promised of the bytes that `write!` puts there, and a text of
+// `format!` wants a heap.
 #![tactic(auto)]
 
 ghost use Rattle.std.specs.Prelude.{[], ◌∷◌, ◌≡◌, ◌+◌, ◌*◌, ◌≤◌, ◌<◌, length, take};
@@ -32,13 +33,13 @@ fn put_digits(out: &mut [u8], at: usize, n: u64, most: usize) -> usize
     ensures { Wrote (digits most n) out.old at out.new result }
 {
     if most == 0 {
-        return at;
+        at
+    } else if n < 10 {
+        put_byte(out, at, digit(n))
+    } else {
+        let last = put_digits(out, at, n / 10, most - 1);
+        put_byte(out, last, digit(n % 10))
     }
-    if n < 10 {
-        return put_byte(out, at, digit(n));
-    }
-    let last = put_digits(out, at, n / 10, most - 1);
-    put_byte(out, last, digit(n % 10))
 }
 
 // A space and a number.
@@ -50,25 +51,17 @@ fn put_number(out: &mut [u8], at: usize, n: u64, most: usize) -> usize
     put_digits(out, next, n, most)
 }
 
-fn wide(w: u32) -> u64
-    ensures { result ≡ w }
-{
-    w as u64
-}
-
-// A space and a word; `-` for no node, where the word holds a node's number.
+// A space and a word; `-` for no node, where the word holds a node's number, which its bit of the mask says.
 fn put_word(out: &mut [u8], at: usize, w: u32, holds: bool) -> usize
     requires { at + 11 ≤ length out.old }
     ensures { Wrote (32 ∷ word holds w) out.old at out.new result }
 {
-    if holds {
-        if w == ast::NONE_NODE {
-            let dash = put_byte(out, at, b' ');
-            return put_byte(out, dash, b'-');
-        }
-        return put_number(out, at, wide(w), 10);
+    if holds && w == ast::NONE_NODE {
+        let dash = put_byte(out, at, b' ');
+        put_byte(out, dash, b'-')
+    } else {
+        put_number(out, at, u64::from(w), 10)
     }
-    put_number(out, at, wide(w), 10)
 }
 
 // Words, each behind a space. The lowest bit of the mask is the first word's, and says that it holds a node's number.
@@ -77,12 +70,10 @@ fn put_words(out: &mut [u8], at: usize, words: &[u32], mask: u32) -> usize
     ensures { Wrote (spaced (masked mask words.now)) out.old at out.new result }
 {
     let mut next = at;
-    let mut m = mask;
-    let mut j: usize = 0;
-    while j < words.len() {
-        next = put_word(out, next, words[j], m % 2 == 1);
-        m = m / 2;
-        j += 1;
+    let mut rest = mask;
+    for word in words {
+        next = put_word(out, next, *word, rest % 2 == 1);
+        rest /= 2;
     }
     next
 }
@@ -98,18 +89,16 @@ fn put_line(out: &mut [u8], at: usize, first: u64, words: &[u32], mask: u32) -> 
 }
 
 // The index and the record of each node. A record's first bits are those of kind, start, end and next, the one that is always a node's number.
+#[tactic(auto, using(crate::proofs::Parts::fields_few))]
 fn put_nodes(out: &mut [u8], at: usize, tree: &[u32], nodes: usize) -> usize
     requires { (8 * nodes + 8 ≤ length tree.now) × (at + 99 * nodes ≤ length out.old) }
     ensures { Wrote (node_lines 0 (nodes_of tree.now nodes)) out.old at out.new result }
 {
     let mut next = at;
-    let mut k: usize = 0;
-    while k < nodes {
+    for k in 0..nodes {
         let from = 8 * k + 8;
-        let end = from + 8;
         let fields = ast::node_fields(tree[from]);
-        next = put_line(out, next, k as u64, &tree[from..end], 8 + 16 * fields);
-        k += 1;
+        next = put_line(out, next, k as u64, &tree[from..from + 8], 8 + 16 * fields);
     }
     next
 }
@@ -119,7 +108,7 @@ pub fn print_tree(tree: &[u32], nodes: usize, out: &mut [u8]) -> usize
     requires { (8 * nodes + 8 ≤ length tree.now) × (99 * nodes + 88 ≤ length out.old) }
     ensures { Shows (printed_tree (take 8 tree.now) (nodes_of tree.now nodes)) out.old out.new result }
 {
-    let next = put_line(out, 0, wide(tree[0]), &tree[1..8], 0);
+    let next = put_line(out, 0, u64::from(tree[0]), &tree[1..8], 0);
     put_nodes(out, next, tree, nodes)
 }
 
@@ -130,7 +119,7 @@ pub fn print_no(number: u32, place: usize, out: &mut [u8]) -> usize
 {
     let a = put_byte(out, 0, b'n');
     let b = put_byte(out, a, b'o');
-    let c = put_number(out, b, wide(number), 10);
+    let c = put_number(out, b, u64::from(number), 10);
     let d = put_number(out, c, place as u64, 20);
     put_byte(out, d, b'\n')
 }

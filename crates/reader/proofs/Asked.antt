@@ -6,16 +6,14 @@ use Prim.Native.Nat.{ℕ, ◌≤◌, ◌<◌}
 use borrow.Author.Tests.{lt-ltb, le-ltb}
 use lib.ListN.{length, take, drop}
 use lib.Seq.{length-take-le}
+use Rattle.std.specs.Prelude.{Option, Some, None}
 use Rattle.areas.specs.Area.{area, token_area}
 use Rattle.utf8.specs.Table.{utf8_error_lem}
-use Rattle.utf8.specs.declared.Utf8.{Utf8}
-use Rattle.utf8.specs.declared.Utf8.TheVariants.{WellFormed, IllFormed}
 use Rattle.lexer.specs.Scan.{token_list}
 use Rattle.reader.specs.Outcome.{Area, kept, holds, Outcome, tree_area, after, untouched, of_scan, of_utf8, outcome}
 use Rattle.reader.specs.Reads.{Reads}
 use Rattle.reader.specs.Steps.{Exact, padded, Became, Fills}
-use Rattle.reader.specs.declared.Answer.{Answer}
-use Rattle.reader.specs.declared.Answer.TheVariants.{No}
+use Rattle.reader.specs.Answer.{Answer, no}
 use Rattle.reader.proofs.Derived.{promised}
 
 -- the areas that are lent are all that the work has
@@ -31,38 +29,38 @@ whole kept size now before e = absurd e
 whole (holds filled) size now before e = ap (λ (l : List ℕ). l ++ drop size before) e
 
 module _ (src tokens text tree : List ℕ) (r : Answer) where
-  untouched_reads : {number place : ℕ} → r ≡ No number place → outcome src (length tokens) (length text) (length tree) ≡ untouched number place → Reads src r tokens text tree tokens text tree
-  untouched_reads e o = promised src tokens text tree o e refl refl refl
+  untouched_reads : (number place : ℕ) → r ≡ no number place → outcome src (length tokens) (length text) (length tree) ≡ untouched number place → Reads src r tokens text tree tokens text tree
+  untouched_reads number place e o = promised src tokens text tree o e refl refl refl
 
-  pub no1 : 65536 < length src → r ≡ No 1 0 → Reads src r tokens text tree tokens text tree
+  pub no1 : 65536 < length src → r ≡ no 1 0 → Reads src r tokens text tree tokens text tree
   unfolding outcome
-  no1 h e = untouched_reads e (simp (lt-ltb _ _ h))
+  no1 h e = untouched_reads 1 0 e (simp (lt-ltb _ _ h))
 
   module _ (h1 : length src ≤ 65536) where
-    pub no2 : length tokens < token_area (length src) → r ≡ No 2 0 → Reads src r tokens text tree tokens text tree
+    pub no2 : length tokens < token_area (length src) → r ≡ no 2 0 → Reads src r tokens text tree tokens text tree
     unfolding outcome
-    no2 h e = untouched_reads e (simp (le-ltb _ _ h1, lt-ltb _ _ h))
+    no2 h e = untouched_reads 2 0 e (simp (le-ltb _ _ h1, lt-ltb _ _ h))
 
     module _ (h2 : token_area (length src) ≤ length tokens) where
-      pub no3 : length text < length src → r ≡ No 3 0 → Reads src r tokens text tree tokens text tree
+      pub no3 : length text < length src → r ≡ no 3 0 → Reads src r tokens text tree tokens text tree
       unfolding outcome
-      no3 h e = untouched_reads e (simp (le-ltb _ _ h1, le-ltb _ _ h2, lt-ltb _ _ h))
+      no3 h e = untouched_reads 3 0 e (simp (le-ltb _ _ h1, le-ltb _ _ h2, lt-ltb _ _ h))
 
       module _ (h3 : length src ≤ length text) where
-        pub no4 : length tree < tree_area (length src) → r ≡ No 4 0 → Reads src r tokens text tree tokens text tree
+        pub no4 : length tree < tree_area (length src) → r ≡ no 4 0 → Reads src r tokens text tree tokens text tree
         unfolding outcome
-        no4 h e = untouched_reads e (simp (le-ltb _ _ h1, le-ltb _ _ h2, le-ltb _ _ h3, lt-ltb _ _ h))
+        no4 h e = untouched_reads 4 0 e (simp (le-ltb _ _ h1, le-ltb _ _ h2, le-ltb _ _ h3, lt-ltb _ _ h))
 
-        module _ (h4 : tree_area (length src) ≤ length tree) {u : Utf8} (is : u ≡ utf8_error_lem src) where
+        module _ (h4 : tree_area (length src) ≤ length tree) {u : Option ℕ} (is : u ≡ utf8_error_lem src) where
           yes : outcome src (length tokens) (length text) (length tree) ≡ of_utf8 src (utf8_error_lem src)
           unfolding outcome
           yes = simp (le-ltb _ _ h1, le-ltb _ _ h2, le-ltb _ _ h3, le-ltb _ _ h4)
 
-          pub no5 : {place : ℕ} → u ≡ IllFormed place → r ≡ No 5 place → Reads src r tokens text tree tokens text tree
-          no5 v e = untouched_reads e (yes ∙ ap (of_utf8 src) (sym is ∙ v))
+          pub no5 : {place : ℕ} → u ≡ Some place → r ≡ no 5 place → Reads src r tokens text tree tokens text tree
+          no5 {place} v e = untouched_reads 5 place e (yes ∙ ap (of_utf8 src) (sym is ∙ v))
 
           -- the areas have come back: what lies beyond each is as it was
-          pub worked : u ≡ WellFormed → (tokens' text' tree' : List ℕ) → Fills (of_scan src (token_list src)) (length src) r tokens' text' tree'
+          pub worked : u ≡ None → (tokens' text' tree' : List ℕ) → Fills (of_scan src (token_list src)) (length src) r tokens' text' tree'
               → Reads src r tokens text tree (tokens' ++ drop (token_area (length src)) tokens) (text' ++ drop (length src) text) (tree' ++ drop (tree_area (length src)) tree)
           worked v tokens' text' tree' f =
               let o : Outcome = of_scan src (token_list src) in

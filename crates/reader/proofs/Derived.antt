@@ -9,19 +9,18 @@ use native.Mathlib.Omega.{arith}
 use lib.Dec.{eqb, ltb, leb, leb→le}
 use lib.ListN.{length, take, drop}
 use borrow.Author.Tests.{le-leb}
+use Rattle.std.specs.Prelude.{Option, Some, None}
 use Rattle.areas.specs.Area.{token_area}
-use Rattle.utf8.specs.declared.Utf8.{Utf8}
-use Rattle.utf8.specs.declared.Utf8.TheVariants.{WellFormed, IllFormed}
 use Rattle.utf8.specs.Table.{utf8_error_lem}
 use Rattle.grammar.specs.Descent as Descent
 use Rattle.grammar.specs.Descent.{descend}
-use Rattle.grammar.specs.Limits.{before}
+use Rattle.grammar.specs.Limits as Limits
 use Rattle.token.specs.Code.{Eof}
 use Rattle.tokens.specs.Token.{Token}
 use Rattle.lexer.specs.Scan.{Scan, scanned, refused, token_list}
 use Rattle.lexer.specs.Words.{text_bytes}
 use Rattle.lexer.proofs.Laws.{tokens_few, text_few}
-use Rattle.lexer.proofs.Refusals.{refusals}
+use Rattle.lexer.proofs.Refusals.{refusals, refused_case}
 use Rattle.pyhyeon.specs.Symbol.{symbols}
 use Rattle.pyhyeon.specs.Action.{machine}
 use Rattle.pyhyeon.specs.Rules.{Program}
@@ -32,11 +31,11 @@ use Rattle.pyhyeon.proofs.Agreement as agreement
 use Rattle.pyhyeon.proofs.Limits.{limits}
 use Rattle.pyhyeon.proofs.Spelling as floats
 use Rattle.joint.proofs.Promised.{tokens_counted, script_earliest}
-use Rattle.reader.specs.Answer.{numbers_of, written}
+use Rattle.source.specs.Reasons.{number_of, reason_of, refusal_at}
+use Rattle.source.specs.declared.refusal.Refusal.{Refusal}
+use Rattle.reader.specs.Answer.{Answer, before, stopped, numbers_of, written}
 use Rattle.reader.specs.Outcome.{Area, holds, Outcome, tree_area, records, after, untouched, of_descent, of_scan, of_utf8, outcome}
 use Rattle.reader.specs.Reads.{refused_by, nothing, counts_of, counts_in, descent_counts, trial_of, accepts, nodes_in, EarliestOf, SpellingsOf, Alike, Reads}
-use Rattle.reader.specs.declared.Answer.{Answer}
-use Rattle.reader.specs.declared.Answer.TheVariants.{No, Stopped}
 use Rattle.reader.proofs.Filled.{nodes_are, area_front, area_records, length_records}
 
 -- the fields of `Reads` that follow, for an answer and the areas of text and tree, where the token list is x
@@ -56,8 +55,9 @@ record Follows (src : List ℕ) (x : Scan) (r : Answer) (text tree : Area) : Typ
   never_12 : (numbers_of r).number ≡ 12 → ⊥
 
 -- a refusal before the descent
-early : (src : List ℕ) (x : Scan) (number place : ℕ) (text tree : Area) → 1 ≤ number → number ≤ 11 → Follows src x (No number place) text tree
-early src x number place text tree least most =
+early : (src : List ℕ) (x : Scan) (p : Refusal) (text tree : Area) → 1 ≤ number_of p.reason → number_of p.reason ≤ 11 → Follows src x (before p) text tree
+early src x p text tree least most =
+    let number = number_of p.reason in
     let late_is : leb 14 number ≡ true → ⊥ = λ e. omega (arith, leb→le 14 number (rw e tt)) in
     let a : leb 1 number ≡ true = le-leb 1 number least in
     let b : leb number 11 ≡ true = le-leb number 11 most in
@@ -83,7 +83,7 @@ module _ (src : List ℕ) (ts : List Token) (bs : List ℕ) (is : token_list src
   unfolding descent
   work_tokens = go (descend pyhyeon depth Program 0 (start src ts))
     where
-      T : before Eof (symbols src ts) ≤ length src
+      T : Limits.before Eof (symbols src ts) ≤ length src
       T = omega (arith, tokens_counted src ts bs is, tokens_few src ts bs is)
 
       go : (x : Descent.Answer (machine src ts)) → (work_of (descended src ts x)).tokens ≤ length src
@@ -141,31 +141,31 @@ module _ (src : List ℕ) (ts : List Token) (bs : List ℕ) (is : token_list src
       }
   late (Misfit f place w) e = by_fault f e
     where
-      unfit : (f : Fault) → descent src ts ≡ Misfit f place w → refused_by 11 (fault_number f) ≡ false → eqb (fault_number f) 0 ≡ false → 12 < fault_number f →
-          Follows src (scanned ts bs) (Stopped (fault_number f) place w.tokens (length w.nodes) w.openings) (holds []) (holds [])
-      unfit f e a z few =
+      unfit : (f : Fault) → descent src ts ≡ Misfit f place w → refused_by 11 (fault_number f) ≡ false → eqb (fault_number f) 0 ≡ false → 12 < fault_number f → number_of (reason_of (fault_number f)) ≡ fault_number f →
+          Follows src (scanned ts bs) (stopped (fault_number f) place w.tokens (length w.nodes) w.openings) (holds []) (holds [])
+      unfit f e a z few n =
           let t : trial src ts ≡ Fails = agreement.refuses src ts f place w e in
           let l = common (Misfit f place w) e in
           record {
-            counts = rw a l.same;
+            counts = rw (n, a) l.same;
             shown = λ _. (refl, refl);
             few_openings = l.limited.openings;
             few_nodes = l.limited.nodes;
             few_tokens = l.short;
             few_bytes = omega arith;
-            exactly = λ _. rw z (ap accepts t);
+            exactly = λ _. rw (n, z) (ap accepts t);
             count = λ k. absurd (omega arith);
             words = λ k. absurd (omega arith);
             decoded = λ k. absurd (omega arith);
-            earliest = λ _. script_earliest src ts bs is f place w e;
+            earliest = λ _. rw n (script_earliest src ts bs is f place w e);
             spellings = λ k. absurd (omega arith);
             never_12 = λ k. omega arith;
           }
 
-      by_fault : (f : Fault) → descent src ts ≡ Misfit f place w → Follows src (scanned ts bs) (Stopped (fault_number f) place w.tokens (length w.nodes) w.openings) (holds []) (holds [])
-      by_fault Fault.wrong e = unfit Fault.wrong e refl refl (omega arith)
-      by_fault Fault.cut e = unfit Fault.cut e refl refl (omega arith)
-      by_fault Fault.missing e = unfit Fault.missing e refl refl (omega arith)
+      by_fault : (f : Fault) → descent src ts ≡ Misfit f place w → Follows src (scanned ts bs) (stopped (fault_number f) place w.tokens (length w.nodes) w.openings) (holds []) (holds [])
+      by_fault Fault.wrong e = unfit Fault.wrong e refl refl (omega arith) refl
+      by_fault Fault.cut e = unfit Fault.cut e refl refl (omega arith) refl
+      by_fault Fault.missing e = unfit Fault.missing e refl refl (omega arith) refl
 
 abbrev Of : List ℕ → Outcome → Type 0
 Of src o = Follows src (token_list src) o.answer o.text o.tree
@@ -174,23 +174,25 @@ of-scan : (src : List ℕ) → Of src (of_scan src (token_list src))
 of-scan src = go (token_list src) refl
   where
     go : (x : Scan) → token_list src ≡ x → Follows src x (of_scan src x).answer (of_scan src x).text (of_scan src x).tree
-    go (refused number place) e = let f = refusals src number place e in early src (refused number place) number place _ _ (omega (arith, f.least)) f.greatest
+    go (refused number place) e = let f = refusals src number place e in
+        let n = refused_case src number place e in
+        early src (refused number place) (refusal_at number place) _ _ (omega (arith, n, f.least)) (omega (arith, n, f.greatest))
     go (scanned ts bs) e = late src ts bs e (descent src ts) refl
 
 of_all : (src : List ℕ) (tokens text tree : ℕ) → Of src (outcome src tokens text tree)
 unfolding outcome
 of_all src tokens text tree = go (ltb 65536 (length src)) (ltb tokens (token_area (length src))) (ltb text (length src)) (ltb tree (tree_area (length src))) (utf8_error_lem src)
   where
-    no : (number place : ℕ) → 1 ≤ number → number ≤ 11 → Of src (untouched number place)
-    no number place h k = early src (token_list src) number place _ _ h k
+    no : (number place : ℕ) → 1 ≤ number_of (reason_of number) → number_of (reason_of number) ≤ 11 → Of src (untouched number place)
+    no number place h k = early src (token_list src) (refusal_at number place) _ _ h k
 
-    go : (a b c d : Bool) (u : Utf8) → Of src (cond a (untouched 1 0) (cond b (untouched 2 0) (cond c (untouched 3 0) (cond d (untouched 4 0) (of_utf8 src u)))))
+    go : (a b c d : Bool) (u : Option ℕ) → Of src (cond a (untouched 1 0) (cond b (untouched 2 0) (cond c (untouched 3 0) (cond d (untouched 4 0) (of_utf8 src u)))))
     go true b c d u = no 1 0 (omega arith) (omega arith)
     go false true c d u = no 2 0 (omega arith) (omega arith)
     go false false true d u = no 3 0 (omega arith) (omega arith)
     go false false false true u = no 4 0 (omega arith) (omega arith)
-    go false false false false (IllFormed place) = no 5 place (omega arith) (omega arith)
-    go false false false false WellFormed = of-scan src
+    go false false false false (Some place) = no 5 place (omega arith) (omega arith)
+    go false false false false None = of-scan src
 
 -- "so 12 never occurs from here on": no source, in slices of any lengths, is answered by it
 pub no_answer_12 : (src : List ℕ) (tokens text tree : ℕ) → (numbers_of (outcome src tokens text tree).answer).number ≡ 12 → ⊥

@@ -13,16 +13,16 @@ use Rattle.ast.specs.Node.{none}
 use Rattle.pyhyeon.specs.Reading.{Descended}
 use Rattle.pyhyeon.specs.Starred.{Reads}
 use Rattle.pyhyeon.proofs.Starred.{starred}
+use Rattle.reader.specs.Answer as answer
 use Rattle.reader.specs.Answer.{numbers_of}
 use Rattle.reader.specs.Outcome.{Outcome, after, of_scan, of_descent, outcome}
-use Rattle.reader.specs.declared.Answer.TheVariants.{Tree, No}
 
 -- a starred script, behind question 5
 reads : (src : List ℕ) {ts : List Token} {d : Descended} → Reads src ts d → of_scan src (token_list src) ≡ of_descent (length src) ts [] d
 reads src {ts} r = ap (of_scan src) r.scans ∙ ap (of_descent (length src) ts []) r.comes.descends
 
 -- "*empty: T 0, N 1, openings 1", in slices that are the areas
-empty : (outcome [] 3 0 16).answer ≡ Tree 0 1 0 1
+empty : (outcome [] 3 0 16).answer ≡ answer.tree 0 1 0 1
 unfolding outcome utf8_error_lem first_ill_formed
 empty = ap (λ (o : Outcome). o.answer) (reads [] starred.nothing)
 
@@ -38,7 +38,7 @@ unfolding outcome utf8_error_lem first_ill_formed sequence_length rows
 parens = ap (λ (o : Outcome). numbers_of o.answer) (reads (bytes "()") starred.parens)
 
 -- "*Tab first: 6 at 0", and zeros in the token slice up to its last word, which lies beyond
-tab : (outcome (bytes "\t") 7 1 32).answer ≡ No 6 0
+tab : (outcome (bytes "\t") 7 1 32).answer ≡ answer.no 6 0
 unfolding outcome utf8_error_lem first_ill_formed sequence_length rows
 tab = ap (λ (x : Scan). (of_scan (bytes "\t") x).answer) starred.tab
 
@@ -47,19 +47,19 @@ unfolding outcome utf8_error_lem first_ill_formed sequence_length rows area
 tab_tokens = ap (λ (x : Scan). after (of_scan (bytes "\t") x).tokens 6 (9 ∷ 9 ∷ 9 ∷ 9 ∷ 9 ∷ 9 ∷ 5 ∷ [])) starred.tab
 
 -- "first no decides": a word or a byte too few of each slice, of some, of the last
-short : (outcome (255 ∷ []) 5 0 31).answer ≡ No 2 0
+short : (outcome (255 ∷ []) 5 0 31).answer ≡ answer.no 2 0
 unfolding outcome
 short = refl
 
-short_text : (outcome (255 ∷ []) 6 0 31).answer ≡ No 3 0
+short_text : (outcome (255 ∷ []) 6 0 31).answer ≡ answer.no 3 0
 unfolding outcome
 short_text = refl
 
-short_tree : (outcome (255 ∷ []) 6 1 31).answer ≡ No 4 0
+short_tree : (outcome (255 ∷ []) 6 1 31).answer ≡ answer.no 4 0
 unfolding outcome
 short_tree = refl
 
 -- a byte that begins no sequence
-ill_formed : (outcome (97 ∷ 255 ∷ []) 9 2 48).answer ≡ No 5 1
+ill_formed : (outcome (97 ∷ 255 ∷ []) 9 2 48).answer ≡ answer.no 5 1
 unfolding outcome utf8_error_lem first_ill_formed sequence_length rows
 ill_formed = refl

@@ -4,9 +4,10 @@ use mathlib.Core.Path.{◌≡◌, refl, sym, ap, ap₂, ◌∙◌}
 use mathlib.Core.List.{List, [], ◌∷◌, ◌++◌, append-nil, append_assoc}
 use Prim.Native.Nat.{ℕ, zero, suc, ◌+◌, ◌-◌, ◌*◌, ◌≤◌}
 use native.Mathlib.Omega.{arith}
-use lib.ListN.{length, get_or, take, drop, replicate, length-append, length-drop, length-take}
-use lib.Seq.{length-take-le, drop-length, drop-cons, drop-drop, take-add, take-append-add, take_at}
-use Rattle.areas.specs.Area.{area, zeroed}
+use lib.ListN.{length, get_or, take, drop, replicate, length-append, length-drop, length-take, drop_of_length-le}
+use lib.Seq.{drop-length, length-take-le, drop-cons, drop-drop, take-add, take-append-add, take_at}
+use borrow.Rule.Slice.PartMut.{put_mid}
+use Rattle.areas.specs.Area.{area, filled_with, zeroed}
 use Rattle.ast.specs.Node.{Node, words}
 use Rattle.ast.specs.Words.{tabulate, node_at, nodes_of}
 use Rattle.ast.proofs.Nodes.{length_nodes}
@@ -15,27 +16,23 @@ use Rattle.reader.specs.Steps.{padded}
 
 -- ---- zeros
 
-pub all_zero : {to : ℕ} (l : List ℕ) → to ≡ length l → zeroed 0 to l ≡ replicate (length l) 0
-unfolding zeroed
-all_zero l e =
-    let z : length l - 0 ≡ length l = omega arith in
-    rw (e, drop-length l, append-nil, z)
-
 -- an area with nothing but zeros
 pub zeros_pad : {k size : ℕ} → k ≡ size → replicate k 0 ≡ padded size []
 unfolding padded
 zeros_pad {k} {size} e = let z : size - 0 ≡ k = omega arith in rw z
 
-zeros_behind : (k : ℕ) {size : ℕ} (l : List ℕ) → length l ≡ size → k ≤ size → zeroed k size l ≡ padded size (take k l)
-unfolding zeroed padded
-zeros_behind k l e h = rw (← e) (rw (drop-length l, append-nil, length-take-le k l (omega arith)))
+zeros_behind : (k m : ℕ) {size : ℕ} (l zs : List ℕ) → length l ≡ size → k ≤ size → zs ≡ replicate m 0 → m ≡ size - k → put_mid k (length l - k) l zs ≡ padded size (take k l)
+unfolding padded
+zeros_behind k m l zs e h z s =
+    let past = drop_of_length-le (drop k l) {i = length l - k} (simp length-drop (omega arith)) in
+    rw (past, append-nil zs, z, s, length-take-le k l (omega arith))
 
 -- the header, the records as they stand, and zeros behind them
-pub finished : (n t x nodes openings : ℕ) {to : ℕ} (tree tree₁ : List ℕ) {tree' : List ℕ} → length tree ≡ tree_area n → 8 * nodes + 8 ≤ tree_area n → to ≡ tree_area n
-    → tree₁ ≡ header n t x nodes openings ++ drop 8 tree → tree' ≡ zeroed (8 * nodes + 8) to tree₁
-    → tree' ≡ padded (tree_area n) (header n t x nodes openings ++ take (8 * nodes) (drop 8 tree))
-finished n t x nodes openings tree tree₁ e h k w z =
-    z ∙ ap (λ (s : ℕ). zeroed (8 * nodes + 8) s tree₁) k ∙ zeros_behind (8 * nodes + 8) tree₁ long h ∙ ap (padded (tree_area n)) front
+pub finished : (n t x nodes openings m : ℕ) (tree tree₁ zs : List ℕ) → length tree ≡ tree_area n → 8 * nodes + 8 ≤ tree_area n
+    → tree₁ ≡ header n t x nodes openings ++ drop 8 tree → zs ≡ replicate m 0 → m ≡ length tree₁ - (8 * nodes + 8)
+    → put_mid (8 * nodes + 8) (length tree₁ - (8 * nodes + 8)) tree₁ zs ≡ padded (tree_area n) (header n t x nodes openings ++ take (8 * nodes) (drop 8 tree))
+finished n t x nodes openings m tree tree₁ zs e h w z s =
+    zeros_behind (8 * nodes + 8) m tree₁ zs long h z (omega (arith, long)) ∙ ap (padded (tree_area n)) front
   where
     long : length tree₁ ≡ tree_area n
     long = ap length w ∙ length-append (header n t x nodes openings) (drop 8 tree) ∙ rw (length-drop 8 tree, e) (omega arith)

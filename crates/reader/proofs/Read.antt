@@ -2,6 +2,7 @@
 -- Assumes nothing.
 use mathlib.Core.Path.{◌≡◌, refl, sym, ap, ◌∙◌, subst}
 use mathlib.Core.List.{List, [], ◌++◌, append-nil}
+use Rattle.std.specs.Prelude.{Result, Ok, Err}
 use Prim.Native.Nat.{ℕ, ◌+◌, ◌-◌, ◌*◌, ◌≤◌}
 use native.Mathlib.Omega.{arith}
 use lib.ListN.{length, take, drop, replicate, length-append, length-replicate, drop_of_length-le}
@@ -10,7 +11,6 @@ use Rattle.token.specs.declared.NodeNumber.{NodeNumber}
 use Rattle.lexer.specs.Scan.{Scan, scanned, refused, token_list}
 use Rattle.lexer.specs.Words.{answer_of, words_of, text_bytes, Scans}
 use Rattle.lexer.specs.declared.Scanned.{Scanned}
-use Rattle.lexer.specs.declared.Scanned.TheVariants as S
 use Rattle.lexer.proofs.Writing.{length_words}
 use Rattle.lexer.proofs.Laws.{tokens_few, text_few}
 use Rattle.ast.specs.Words.{nodes_of}
@@ -18,14 +18,16 @@ use Rattle.ast.proofs.Nodes.{length_nodes}
 use Rattle.pyhyeon.specs.Reading.{Descended, Accepted, Limited, work_of, descent}
 use Rattle.pyhyeon.proofs.Limits.{limits}
 use Rattle.leaves.specs.declared.State.{State}
-use Rattle.leaves.specs.declared.Parsed.{Parsed}
-use Rattle.leaves.specs.declared.Parsed.TheVariants as P
+use Rattle.leaves.specs.Contract.{Parsed, read, refused as given_up}
 use Rattle.lookahead.specs.Tokens.{code_at, start_at}
 use Rattle.joint.proofs.Handed.{Handed, handed_front}
 use Rattle.reader.specs.Outcome.{Outcome, tree_area, header, of_descent, of_scan}
 use Rattle.reader.specs.Steps.{Exact, padded, Held, Tells, Counted, Fills}
-use Rattle.reader.specs.declared.Answer.{Answer}
-use Rattle.reader.specs.declared.Answer.TheVariants.{Tree, No, Stopped}
+use Rattle.source.specs.Reasons.{reason_of, refusal_at}
+use Rattle.source.specs.declared.refusal.Reason.{Reason}
+use Rattle.source.specs.declared.refusal.Refusal.{Refusal}
+use Rattle.reader.specs.Answer as answer
+use Rattle.reader.specs.Answer.{Answer, before}
 use Rattle.reader.proofs.Filled.{zeros_pad, records_of}
 use Rattle.reader.proofs.Came.{work_at, Came, came_node, came_no, came_deep}
 
@@ -56,25 +58,29 @@ module _ {toks : List ℕ} {T : ℕ} where
   pub told : {d : Descended} {a b : Parsed} {tr : List ℕ} → a ≡ b → Came toks T d a tr → Came toks T d b tr
   told {d} {tr = tr} e c = subst (λ (x : Parsed). Came toks T d x tr) e c
 
-  pub stop_here : {d : Descended} {k : ℕ} {s : State} {tr : List ℕ} → Came toks T d (P.Refused k s) tr → s.at.0 ≤ T
+  pub stop_here : {d : Descended} {k : Reason} {s : State} {tr : List ℕ} → Came toks T d (given_up k s) tr → s.at.0 ≤ T
   stop_here (came_no asked s tr h) = h
   stop_here (came_deep s tr h) = h
 
-  node_is : {d : Descended} {n : NodeNumber} {s : State} {tr : List ℕ} → Came toks T d (P.Node n s) tr → (d ≡ Accepted (work_at T s tr)) × (1 ≤ s.nodes)
+  node_is : {d : Descended} {n : NodeNumber} {s : State} {tr : List ℕ} → Came toks T d (read n s) tr → (d ≡ Accepted (work_at T s tr)) × (1 ≤ s.nodes)
   node_is (came_node n s tr h) = (refl, h)
 
-  few : {d : Descended} {n : NodeNumber} {s : State} {tr : List ℕ} → Came toks T d (P.Node n s) tr → Limited (work_of d) → (s.nodes ≤ 2 * T + 1) × (s.opened ≤ 10 * T + 1)
+  few : {d : Descended} {n : NodeNumber} {s : State} {tr : List ℕ} → Came toks T d (read n s) tr → Limited (work_of d) → (s.nodes ≤ 2 * T + 1) × (s.opened ≤ 10 * T + 1)
   few (came_node n s tr h) l = (omega (arith, l.nodes, length_nodes tr s.nodes), l.openings)
+
+-- a refusal at a state
+abbrev pub stop_at : ℕ → Reason → ℕ → State → Answer
+stop_at count why place s = Err (record { refusal = record { reason = why; place = place }; tokens = count; nodes = s.nodes; openings = s.opened })
 
 module _ {src : List ℕ} {count used : ℕ} {tokens text : List ℕ} (held : Held src count used tokens text) (h : Handed src count used tokens) {s : State} {tr : List ℕ} where
   -- the counts of an accepted source
-  pub counts : {toks : List ℕ} {n : NodeNumber} → Came toks count (descent src h.ts) (P.Node n s) tr → Counted (length src) count used s.nodes s.opened
+  pub counts : {toks : List ℕ} {n : NodeNumber} → Came toks count (descent src h.ts) (read n s) tr → Counted (length src) (record { tokens = count; nodes = s.nodes; text = used; openings = s.opened })
   counts c =
       let f = few c (limits src h.ts) in
       record { small = held.small; few_tokens = h.few; few_bytes = h.few_bytes; some = (node_is c).1; few_nodes = f.0; few_openings = f.1 }
 
-  pub accepts : {toks : List ℕ} {n : NodeNumber} {r : Answer} {tree : List ℕ} → length tr ≡ tree_area (length src) → Came toks count (descent src h.ts) (P.Node n s) tr
-      → r ≡ Tree count s.nodes used s.opened → tree ≡ padded (tree_area (length src)) (header (length src) count used s.nodes s.opened ++ take (8 * s.nodes) (drop 8 tr))
+  pub accepts : {toks : List ℕ} {n : NodeNumber} {r : Answer} {tree : List ℕ} → length tr ≡ tree_area (length src) → Came toks count (descent src h.ts) (read n s) tr
+      → r ≡ answer.tree count s.nodes used s.opened → tree ≡ padded (tree_area (length src)) (header (length src) count used s.nodes s.opened ++ take (8 * s.nodes) (drop 8 tr))
       → Fills (of_scan src (token_list src)) (length src) r tokens text tree
   accepts {r = r} {tree = tree} long c a e =
       let k = counts c in
@@ -89,14 +95,14 @@ module _ {src : List ℕ} {count used : ℕ} {tokens text : List ℕ} (held : He
       })
 
   -- a refusal: zeros alone
-  pub refuses : {toks : List ℕ} {k number code place : ℕ} {tokens' text' tree' : List ℕ} → length tr ≡ tree_area (length src) → Came toks count (descent src h.ts) (P.Refused k s) tr → Tells k code number → code ≡ code_at toks s.at.0 → place ≡ start_at toks s.at.0
+  pub refuses : {toks : List ℕ} {code place : ℕ} {k why : Reason} {tokens' text' tree' : List ℕ} → length tr ≡ tree_area (length src) → Came toks count (descent src h.ts) (given_up k s) tr → Tells k code why → code ≡ code_at toks s.at.0 → place ≡ start_at toks s.at.0
       → tokens' ≡ replicate (length tokens) 0 → text' ≡ replicate (length text) 0 → tree' ≡ replicate (length tr) 0
-      → Fills (of_scan src (token_list src)) (length src) (Stopped number place count s.nodes s.opened) tokens' text' tree'
-  refuses {toks} {k} {number} {code} {place} {tokens'} {text'} {tree'} long c m o e p q r =
-      subst (λ (x : Scan). Fills (of_scan src x) (length src) (Stopped number place count s.nodes s.opened) tokens' text' tree') (sym h.is)
-      (subst (λ (i : ℕ). Fills (of_descent (length src) h.ts h.bs (descent src h.ts)) (length src) (Stopped number i count s.nodes s.opened) tokens' text' tree') (sym e) (go c (rw o at m)))
+      → Fills (of_scan src (token_list src)) (length src) (stop_at count why place s) tokens' text' tree'
+  refuses {toks} {code} {place} {k} {why} {tokens'} {text'} {tree'} long c m o e p q r =
+      subst (λ (x : Scan). Fills (of_scan src x) (length src) (stop_at count why place s) tokens' text' tree') (sym h.is)
+      (subst (λ (i : ℕ). Fills (of_descent (length src) h.ts h.bs (descent src h.ts)) (length src) (stop_at count why i s) tokens' text' tree') (sym e) (go c (rw o at m)))
     where
-      go : {d : Descended} {j : ℕ} {st : State} {t : List ℕ} → Came toks count d (P.Refused j st) t → Tells j (code_at toks st.at.0) number → Fills (of_descent (length src) h.ts h.bs d) (length src) (Stopped number (start_at toks st.at.0) count st.nodes st.opened) tokens' text' tree'
+      go : {d : Descended} {j : Reason} {st : State} {t : List ℕ} → Came toks count d (given_up j st) t → Tells j (code_at toks st.at.0) why → Fills (of_descent (length src) h.ts h.bs d) (length src) (stop_at count why (start_at toks st.at.0) st) tokens' text' tree'
       go (came_no asked s tr l) w = rw (length_nodes tr s.nodes, w.unfit asked refl) (record { answer = refl; tokens_are = p ∙ zeros_pad (held_tokens held); text_is = q ∙ zeros_pad (held_text held); tree_is = r ∙ zeros_pad long })
       go (came_deep s tr l) w = rw (length_nodes tr s.nodes, w.deep refl) (record { answer = refl; tokens_are = p ∙ zeros_pad (held_tokens held); text_is = q ∙ zeros_pad (held_text held); tree_is = r ∙ zeros_pad long })
 
@@ -107,22 +113,21 @@ exact_area : (size : ℕ) (filled before : List ℕ) → length before ≡ size 
 unfolding area padded
 exact_area size filled before e = rw (drop_of_length-le before {i = size} (omega arith), append-nil)
 
-module _ {src tokens text tree : List ℕ} (x : Exact src tokens text tree) {r : Scanned} {tokens' text' : List ℕ} (h : Scans src r tokens text tokens' text') where
+module _ {src tokens text tree : List ℕ} (x : Exact src tokens text tree) {r : Result Scanned Refusal} {tokens' text' : List ℕ} (h : Scans src r tokens text tokens' text') where
   scans_tokens : tokens' ≡ padded (token_area (length src)) (words_of (token_list src))
   scans_tokens = h.tokens_are ∙ exact_area (token_area (length src)) (words_of (token_list src)) tokens x.tokens_long
 
   scans_text : text' ≡ padded (length src) (text_bytes (token_list src))
   scans_text = h.text_is ∙ exact_area (length src) (text_bytes (token_list src)) text x.text_long
 
-  pub scan_held : {count used : ℕ} → r ≡ S.Tokens count used → Held src count used tokens' text'
+  pub scan_held : {count used : ℕ} → r ≡ Ok (record { count = count; text = used }) → Held src count used tokens' text'
   scan_held e = record { small = x.small; answer = sym e ∙ h.answer; tokens_are = scans_tokens; text_is = scans_text }
 
-  pub scan_no : {number place : ℕ} {tree' : List ℕ} → r ≡ S.No number place → tree' ≡ padded (tree_area (length src)) [] → Fills (of_scan src (token_list src)) (length src) (No number place) tokens' text' tree'
-  scan_no {number} {place} {tree'} e z = go (token_list src) (sym e ∙ h.answer) scans_tokens scans_text
+  pub scan_no : {p : Refusal} {tree' : List ℕ} → r ≡ Err p → tree' ≡ padded (tree_area (length src)) [] → Fills (of_scan src (token_list src)) (length src) (before p) tokens' text' tree'
+  scan_no {p} {tree'} e z = go (token_list src) (sym e ∙ h.answer) scans_tokens scans_text
     where
-      go : (s : Scan) → S.No number place ≡ answer_of s → tokens' ≡ padded (token_area (length src)) (words_of s) → text' ≡ padded (length src) (text_bytes s) → Fills (of_scan src s) (length src) (No number place) tokens' text' tree'
-      go (scanned ts bs) a p q = let z : ◌≡◌ {A = ℕ} 0 1 = cc in absurd (omega arith)
-      go (refused number' place') a p q =
-          let k : number ≡ number' = cc in
-          let l : place ≡ place' = cc in
-          record { answer = ap (λ (m : ℕ). No m place) k ∙ ap (No number') l; tokens_are = p; text_is = q; tree_is = z }
+      go : (s : Scan) → Err p ≡ answer_of s → tokens' ≡ padded (token_area (length src)) (words_of s) → text' ≡ padded (length src) (text_bytes s) → Fills (of_scan src s) (length src) (before p) tokens' text' tree'
+      go (scanned ts bs) a l t = let z : ◌≡◌ {A = ℕ} 0 1 = cc in absurd (omega arith)
+      go (refused number place) a l t =
+          let same : p ≡ refusal_at number place = cc in
+          record { answer = ap before same; tokens_are = l; text_is = t; tree_is = z }

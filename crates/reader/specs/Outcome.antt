@@ -1,10 +1,8 @@
 -- The answer to a source and what the three lent slices hold then: "Questions put to a script, first no decides" (01, Questions).
 -- Assumes nothing.
-use Rattle.std.specs.Prelude.{ℕ, ◌+◌, ◌-◌, ◌*◌, cond, List, [], ◌∷◌, ◌++◌, ltb, length}
+use Rattle.std.specs.Prelude.{ℕ, ◌+◌, ◌-◌, ◌*◌, cond, List, [], ◌∷◌, ◌++◌, ltb, length, Option, Some, None}
 use Rattle.areas.specs.Area.{area, token_area}
 use Rattle.utf8.specs.Table.{utf8_error_lem}
-use Rattle.utf8.specs.declared.Utf8.{Utf8}
-use Rattle.utf8.specs.declared.Utf8.TheVariants.{WellFormed, IllFormed}
 use Rattle.tokens.specs.Token.{Token}
 use Rattle.lexer.specs.Scan.{Scan, scanned, refused, token_list}
 use Rattle.lexer.specs.Words.{words}
@@ -12,8 +10,7 @@ use Rattle.ast.specs.Node.{Node}
 use Rattle.ast.specs.Node as node
 use Rattle.pyhyeon.specs.Missing.{fault_number}
 use Rattle.pyhyeon.specs.Reading.{Work, Descended, Accepted, TooDeep, Misfit, descent}
-use Rattle.reader.specs.declared.Answer.{Answer}
-use Rattle.reader.specs.declared.Answer.TheVariants.{Tree, No, Stopped}
+use Rattle.reader.specs.Answer as answer
 
 -- "16n+16 words of tree"
 abbrev pub tree_area : ℕ → ℕ
@@ -44,23 +41,23 @@ after (holds filled) size before = area size filled before
 
 -- the answer, and what becomes of each slice
 pub record Outcome : Type 0 where
-  pub answer : Answer
+  pub answer : answer.Answer
   pub tokens : Area
   pub text : Area
   pub tree : Area
 
 -- "1 to 5 leave all slices untouched"
 abbrev pub untouched : ℕ → ℕ → Outcome
-untouched number place = record { answer = No number place; tokens = kept; text = kept; tree = kept }
+untouched number place = record { answer = answer.no number place; tokens = kept; text = kept; tree = kept }
 
 -- "6 to 14 zero the areas"; 15 and 16 "join the fourteen of demand 1" (02, change 4), which says nothing else of what they leave in the slices
-abbrev pub cleared : Answer → Outcome
+abbrev pub cleared : answer.Answer → Outcome
 cleared a = record { answer = a; tokens = holds []; text = holds []; tree = holds [] }
 
 -- "Acceptance zeroes what it doesn't fill": the tokens, the text, and the header with the records
 abbrev pub accepted : ℕ → List Token → List ℕ → Work → Outcome
 accepted n ts bs w = record {
-  answer = Tree w.tokens (length w.nodes) (length bs) w.openings;
+  answer = answer.tree w.tokens (length w.nodes) (length bs) w.openings;
   tokens = holds (words ts);
   text = holds bs;
   tree = holds (header n w.tokens (length bs) (length w.nodes) w.openings ++ records w.nodes);
@@ -68,7 +65,7 @@ accepted n ts bs w = record {
 
 -- "13 and 14 give T and openings", and 15 and 16 as 14; "Program hands back its openings and its nodes written, in a refusal as well"
 abbrev pub stopped : ℕ → ℕ → Work → Outcome
-stopped number place w = cleared (Stopped number place w.tokens (length w.nodes) w.openings)
+stopped number place w = cleared (answer.stopped number place w.tokens (length w.nodes) w.openings)
 
 -- "Then the earliest token: 13 at most 64 E and Block open at once? 14 does it fit the grammar?"; "The new numbers are 15 for the end and 16 for the missing
 -- expression, both at the place of question 14, with T and openings as there" (02, change 4)
@@ -79,13 +76,13 @@ of_descent n ts bs (Misfit f place w) = stopped (fault_number f) place w
 
 -- "Then the earliest in the source": 6 to 11
 abbrev pub of_scan : List ℕ → Scan → Outcome
-of_scan src (refused number place) = cleared (No number place)
+of_scan src (refused number place) = cleared (answer.no number place)
 of_scan src (scanned ts bs) = of_descent (length src) ts bs (descent src ts)
 
 -- "5. UTF-8 by Unicode table 3-7? No: 5, first byte of the bad sequence."
-abbrev pub of_utf8 : List ℕ → Utf8 → Outcome
-of_utf8 src (IllFormed place) = untouched 5 place
-of_utf8 src WellFormed = of_scan src (token_list src)
+abbrev pub of_utf8 : List ℕ → Option ℕ → Outcome
+of_utf8 src (Some place) = untouched 5 place
+of_utf8 src None = of_scan src (token_list src)
 
 -- "1. n at most 65,536? 2. Token slice holds its area? 3. Text slice? 4. Tree slice? No: that number, place 0." The slices have these lengths.
 unfoldable pub outcome : List ℕ → ℕ → ℕ → ℕ → Outcome

@@ -9,9 +9,8 @@ use Rattle.ast.specs.Words.{nodes_of}
 use Rattle.pyhyeon.specs.Reading.{Work, Tried, Fits, Fails, work_of, descent, trial}
 use Rattle.pyhyeon.specs.Earliest.{Earliest}
 use Rattle.pyhyeon.specs.Spelling.{Spellings}
-use Rattle.reader.specs.Answer.{numbers_of, written}
+use Rattle.reader.specs.Answer.{Answer, numbers_of, written}
 use Rattle.reader.specs.Outcome.{tree_area, records, after, outcome}
-use Rattle.reader.specs.declared.Answer.{Answer}
 
 -- the number is that of a refusal from 1 up to `last`
 abbrev pub refused_by : ℕ → ℕ → Bool

@@ -1,28 +1,28 @@
 -- The program's input, read by read, and what is printed for it: "The program reads standard input up to 1,023 bytes and prints .. (.. longer input:
 -- number 1, place 0)" (01, Scripts). 01 does not speak of a read that fails: nothing is printed then.
 -- Assumes nothing.
-use Rattle.std.specs.Prelude.{ℕ, ◌≤◌, ◌≡◌, Bool, true, false, cond, List, [], ◌∷◌, ◌++◌, ltb, ℤ, pos, negsuc, length, take}
+use Rattle.std.specs.Prelude.{ℕ, ◌≤◌, Bool, true, false, cond, List, [], ◌∷◌, ◌++◌, ltb, Option, Some, None, length, take}
 use Rattle.printing.specs.Printed.{printed_no}
 use Rattle.listing.specs.Listing.{listing}
 use Rattle.shell.specs.declared.Stage.{Stage}
 use Rattle.shell.specs.declared.Stage.TheVariants.{Open, Whole, Longer, Failed}
 use Rattle.shell.specs.declared.Reading.{Reading}
 
--- What a read that is lent n bytes may answer: how many bytes it put there, or -1 where it failed (POSIX, `read`: "the number of bytes actually read",
--- which "shall never be greater than nbyte"; "Otherwise, the functions shall return -1")
-abbrev pub Moved : ℕ → ℤ → Type 0
-Moved n (pos k) = k ≤ n
-Moved n (negsuc k) = k ≡ 0
+-- What a read that is lent n bytes may answer: how many bytes it put there (POSIX, `read`: "the number of bytes actually read", which "shall never be
+-- greater than nbyte"), or none where it failed ("Otherwise, the functions shall return -1")
+abbrev pub Moved : ℕ → Option ℕ → Type 0
+Moved n (Some k) = k ≤ n
+Moved n None = Unit {0}
 
 -- what one read hands back: a failure, or bytes, and none of them at the end of the input
 pub data Handed : Type 0 where
   failure : Handed
   bytes : List ℕ → Handed
 
--- the same of a call's count, which a failure has below 0, and of the chunk that it filled from the front
-abbrev pub handed : ℤ → List ℕ → Handed
-handed (pos n) chunk = bytes (take n chunk)
-handed (negsuc n) chunk = failure
+-- the same of a call's count, which a failure does not have, and of the chunk that it filled from the front
+abbrev pub handed : Option ℕ → List ℕ → Handed
+handed (Some n) chunk = bytes (take n chunk)
+handed None chunk = failure
 
 -- the input so far: its front, with the end still to come, all of it, more than is taken, or what can't be read
 pub data Input : Type 0 where
@@ -71,8 +71,3 @@ input_of Failed l = failed
 -- its stage, with the bytes that were read
 abbrev pub input : Reading → Input
 input r = input_of r.stage (take r.len r.script)
-
--- what `start` and `take` keep of the fields, which are private
-pub record Sound (r : Reading) : Type 0 where
-  pub room : length r.script ≡ 1024
-  pub within : r.len ≤ 1023

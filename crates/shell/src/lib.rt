@@ -2,9 +2,8 @@
 // program comes to one only by `start` and, read by read, by `take`.
 #![tactic(auto)]
 
-ghost use Rattle.std.specs.Prelude.{◌≡◌, true, false, [], ◌≤◌, take};
+ghost use Rattle.std.specs.Prelude.{◌≡◌, true, false, [], ◌≤◌, length};
 ghost use Rattle.printing.specs.Wrote.{Shows};
-ghost use Rattle.shell.specs.Input.{Moved, bytes, handed, front, heard, shown, is_open_lem, has_failed_lem, input_of, input, Sound};
 
 // What one read is lent.
 pub const CHUNK: usize = 1024;
@@ -24,113 +23,65 @@ pub struct Reading {
     script: [u8; listing::MOST + 1],
     len: usize,
     stage: Stage,
+    ghost room: { length script ≡ 1024 },
+    ghost within: { len ≤ 1023 },
 }
 
-// Before the first read.
-pub fn start() -> Reading
-    ensures sound { Sound result }
-    ensures result_value { input result ≡ front [] }
-{
-    Reading {
-        script: [0; listing::MOST + 1],
-        len: 0,
-        stage: Stage::Open,
-    }
-}
+impl Reading {
+    ghost use Rattle.shell.specs.Input.{Moved, handed, front, heard, shown, is_open_lem, has_failed_lem, input};
 
-// The same bytes at another stage.
-fn at(reading: Reading, stage: Stage) -> Reading
-    requires { Sound reading }
-    ensures sound { Sound result }
-    ensures result_value { input result ≡ input_of stage (take reading.len reading.script) }
-{
-    let script = reading.script;
-    Reading {
-        script: script,
-        len: reading.len,
-        stage: stage,
+    // Before the first read.
+    pub fn start() -> Reading
+        ensures { input result ≡ front [] }
+    {
+        Reading {
+            script: [0; listing::MOST + 1],
+            len: 0,
+            stage: Stage::Open,
+        }
     }
-}
 
-// The first k bytes of a chunk are read too, or none at the end of the input.
-fn more(reading: Reading, k: usize, chunk: &[u8; CHUNK]) -> Reading
-    requires sound { Sound reading }
-    requires reading_value { is_open_lem (input reading) ≡ true }
-    requires k_bound { k ≤ 1024 }
-    ensures sound_2 { Sound result }
-    ensures result_value { input result ≡ heard (input reading) (bytes (take k chunk.now)) }
-{
-    let read: &[u8] = chunk;
-    let n = reading.len;
-    if k == 0 {
-        return at(reading, Stage::Whole);
+    // One read more: how many bytes it put into the chunk that was lent to it, none of them at the end of the input, or that it failed.
+    pub fn take(&mut self, got: Option<usize>, chunk: &[u8; CHUNK])
+        requires reading_value { is_open_lem (input self.old) ≡ true }
+        requires moved { Moved 1024 got }
+        ensures { input self.new ≡ heard (input self.old) (handed got chunk.now) }
+    {
+        match got {
+            None => self.stage = Stage::Failed,
+            Some(0) => self.stage = Stage::Whole,
+            Some(k) if listing::MOST - self.len < k => self.stage = Stage::Longer,
+            Some(k) => {
+                let end = self.len + k;
+                self.script[self.len..end].copy_from_slice(&chunk[..k]);
+                self.len = end;
+            }
+        }
     }
-    if listing::MOST - n < k {
-        return at(reading, Stage::Longer);
-    }
-    let mut script = reading.script;
-    script[n..n + k].copy_from_slice(&read[..k]);
-    Reading {
-        script: script,
-        len: n + k,
-        stage: Stage::Open,
-    }
-}
 
-// One read more: what it answered, and the chunk that was lent to it.
-pub fn take(reading: Reading, got: isize, chunk: &[u8; CHUNK]) -> Reading
-    requires sound { Sound reading }
-    requires reading_value { is_open_lem (input reading) ≡ true }
-    requires moved { Moved 1024 got }
-    ensures sound_2 { Sound result }
-    ensures result_value { input result ≡ heard (input reading) (handed got chunk.now) }
-{
-    if got < 0 {
-        return at(reading, Stage::Failed);
+    // Whether the end is still to come.
+    pub fn is_open(&self) -> bool
+        ensures { result ≡ is_open_lem (input self.now) }
+    {
+        matches!(self.stage, Stage::Open)
     }
-    let k = got as usize;
-    more(reading, k, chunk)
-}
 
-// Whether the end is still to come.
-pub fn is_open(reading: Reading) -> bool
-    ensures { result ≡ is_open_lem (input reading) }
-{
-    let stage = reading.stage;
-    match stage {
-        Stage::Open => true,
-        Stage::Whole => false,
-        Stage::Longer => false,
-        Stage::Failed => false,
+    // Whether a read failed.
+    pub fn has_failed(&self) -> bool
+        ensures { result ≡ has_failed_lem (input self.now) }
+    {
+        matches!(self.stage, Stage::Failed)
     }
-}
 
-// Whether a read failed.
-pub fn has_failed(reading: Reading) -> bool
-    ensures { result ≡ has_failed_lem (input reading) }
-{
-    let stage = reading.stage;
-    match stage {
-        Stage::Open => false,
-        Stage::Whole => false,
-        Stage::Longer => false,
-        Stage::Failed => true,
-    }
-}
-
-// Writes what the program prints for an input that is no longer open, and answers how many bytes that are. Any 1,024 bytes are a longer input.
-pub fn answer(reading: Reading, out: &mut [u8; listing::ROOM]) -> usize
-    requires sound { Sound reading }
-    requires reading_value { is_open_lem (input reading) ≡ false }
-    ensures { Shows (shown (input reading)) out.old out.new result }
-{
-    let script = reading.script;
-    let n = reading.len;
-    let stage = reading.stage;
-    match stage {
-        Stage::Open => 0,
-        Stage::Whole => listing::list(&script, n, out),
-        Stage::Longer => listing::list(&script, listing::MOST + 1, out),
-        Stage::Failed => 0,
+    // Writes what the program prints for an input that is no longer open, and answers how many bytes that are. Any 1,024 bytes are a longer input.
+    pub fn answer(&self, out: &mut [u8; listing::ROOM]) -> usize
+        requires { is_open_lem (input self.now) ≡ false }
+        ensures { Shows (shown (input self.now)) out.old out.new result }
+    {
+        match self.stage {
+            Stage::Open | Stage::Failed => 0,
+            Stage::Whole => listing::list(&self.script, self.len, out),
+            Stage::Longer => listing::list(&self.script, listing::MOST + 1, out),
+        }
     }
 }

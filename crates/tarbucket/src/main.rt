@@ -3,9 +3,11 @@
 // written.
 #![tactic(auto)]
 
-ghost use Rattle.std.specs.Prelude.{◌≡◌, ◌≤◌, IfOk, MatchResult, pos, negsuc};
+ghost use Rattle.std.specs.Prelude.{◌≡◌, ◌≤◌, IfOk};
+ghost use Rattle.std.specs.Result.{result_ok};
 ghost use Rattle.shell.specs.Input.{Moved};
 
+use shell::Reading;
 use std::io::{Eprint, Error, Read, Result, Write};
 
 // A line on standard error: what failed, and why.
@@ -13,33 +15,33 @@ fn fail(rt: &impl Eprint, what: &str, error: &Error) {
     let _ = eprintln!(rt; "tarbucket: {what}: {error}");
 }
 
-// What a read answered, as one number: how many bytes it put into the chunk, or -1 where it failed.
-fn count(rt: &impl Eprint, got: Result<usize>) -> isize
+// What a read answered: how many bytes it put into the chunk, or none where it failed, which is told.
+fn count(rt: &impl Eprint, got: Result<usize>) -> Option<usize>
     requires { IfOk got (λ n. n ≤ 1024) }
     ensures moved { Moved 1024 result }
-    ensures value { MatchResult got (λ n. result ≡ pos n) (λ _. result ≡ negsuc 0) }
+    ensures value { result ≡ result_ok got }
 {
     match got {
-        Ok(n) => n as isize,
+        Ok(n) => Some(n),
         Err(error) => {
             fail(rt, "standard input", &error);
-            -1
+            None
         }
     }
 }
 
 fn main(rt: HostRuntime) {
     let mut chunk = [0u8; shell::CHUNK];
-    let mut reading = shell::start();
-    while shell::is_open(reading) {
+    let mut reading = Reading::start();
+    while reading.is_open() {
         let got = count(&rt, rt.stdin().read(&mut chunk));
-        reading = shell::take(reading, got, &chunk);
+        reading.take(got, &chunk);
     }
-    if shell::has_failed(reading) {
+    if reading.has_failed() {
         return;
     }
     let mut out = [0u8; listing::ROOM];
-    let k = shell::answer(reading, &mut out);
+    let k = reading.answer(&mut out);
     if let Err(error) = rt.stdout().write_all(&out[..k]) {
         fail(&rt, "standard output", &error);
     }

@@ -29,4 +29,4 @@ returns c =
     let place = c.args.place in
     let no = both c.put_byte-a.ensures c.put_byte-b.ensures in
     let numbers = both c.put_number-c.ensures c.put_number-d.ensures in
-    shows (same (ap (λ (n : ℕ). printed_no n place) (sym c.wide.ensures) ∙ no_line _ place) (both (both no numbers) c.put_byte.ensures))
+    shows (same (ap (λ (n : ℕ). printed_no n place) (sym c.from.ensures) ∙ no_line _ place) (both (both no numbers) c.put_byte.ensures))

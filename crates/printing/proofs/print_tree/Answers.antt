@@ -15,4 +15,4 @@ put_nodes-requires c =
 pub returns : goal.returns
 returns c =
     let a = c.args in
-    shows (same (tree_lines a.tree.now (omega arith) _ c.wide.ensures (nodes_of a.tree.now a.nodes)) (both c.put_line-next.ensures c.put_nodes.ensures))
+    shows (same (tree_lines a.tree.now (omega arith) _ c.from.ensures (nodes_of a.tree.now a.nodes)) (both c.put_line-next.ensures c.put_nodes.ensures))

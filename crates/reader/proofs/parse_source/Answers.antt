@@ -28,18 +28,18 @@ returns-then-tree-tree_words c =
     let a = c.args in
     no4 a.src.now a.tokens.now a.text.now a.tree.now c.no-then-tree-tree_words.result c.if-n-gt-LONGEST.false c.if-tokens-token_words.false (omega arith) c.if-tree-tree_words.true c.no-then-tree-tree_words.ensures
 
-pub slice_bounds-read_areas-end-in-WellFormed : goal.slice_bounds-read_areas-end-in-WellFormed
-slice_bounds-read_areas-end-in-WellFormed c =
+pub slice_bounds-read_areas-end-in-None : goal.slice_bounds-read_areas-end-in-None
+slice_bounds-read_areas-end-in-None c =
     let a = c.args in
     sym (length-take-le (token_area (length a.src.now)) a.tokens.now c.if-tokens-token_words.false)
 
-pub slice_bounds-read_areas-end-in-WellFormed-3 : goal.slice_bounds-read_areas-end-in-WellFormed-3
-slice_bounds-read_areas-end-in-WellFormed-3 c =
+pub slice_bounds-read_areas-end-in-None-3 : goal.slice_bounds-read_areas-end-in-None-3
+slice_bounds-read_areas-end-in-None-3 c =
     let a = c.args in
     sym (length-take-le (length a.src.now) a.text.now c.if-text-n.false)
 
-pub slice_bounds-read_areas-end-in-WellFormed-5 : goal.slice_bounds-read_areas-end-in-WellFormed-5
-slice_bounds-read_areas-end-in-WellFormed-5 c =
+pub slice_bounds-read_areas-end-in-None-5 : goal.slice_bounds-read_areas-end-in-None-5
+slice_bounds-read_areas-end-in-None-5 c =
     let a = c.args in
     sym (length-take-le (tree_area (length a.src.now)) a.tree.now c.if-tree-tree_words.false)
 
@@ -48,13 +48,13 @@ read_areas-requires c =
     let a = c.args in
     areas a.src.now a.tokens.now a.text.now a.tree.now c.if-n-gt-LONGEST.false c.if-tokens-token_words.false c.if-text-n.false c.if-tree-tree_words.false
 
-pub returns-in-IllFormed : goal.returns-in-IllFormed
-returns-in-IllFormed c =
+pub returns-in-Some : goal.returns-in-Some
+returns-in-Some c =
     let a = c.args in
-    no5 a.src.now a.tokens.now a.text.now a.tree.now c.no-in-IllFormed.result c.if-n-gt-LONGEST.false c.if-tokens-token_words.false c.if-text-n.false c.if-tree-tree_words.false c.utf8_error-found.ensures.found_value c.in-IllFormed.is c.no-in-IllFormed.ensures
+    no5 a.src.now a.tokens.now a.text.now a.tree.now c.no-in-Some.result c.if-n-gt-LONGEST.false c.if-tokens-token_words.false c.if-text-n.false c.if-tree-tree_words.false c.utf8_error.ensures.found_value c.in-Some.is c.no-in-Some.ensures
 
-pub returns-in-WellFormed : goal.returns-in-WellFormed
-returns-in-WellFormed c =
+pub returns-in-None : goal.returns-in-None
+returns-in-None c =
     let a = c.args in
     let w = c.read_areas in
-    worked a.src.now a.tokens.now a.text.now a.tree.now w.result c.if-n-gt-LONGEST.false c.if-tokens-token_words.false c.if-text-n.false c.if-tree-tree_words.false c.utf8_error-found.ensures.found_value c.in-WellFormed.is w.new.tokens w.new.text w.new.tree w.ensures
+    worked a.src.now a.tokens.now a.text.now a.tree.now w.result c.if-n-gt-LONGEST.false c.if-tokens-token_words.false c.if-text-n.false c.if-tree-tree_words.false c.utf8_error.ensures.found_value c.in-None.is w.new.tokens w.new.text w.new.tree w.ensures

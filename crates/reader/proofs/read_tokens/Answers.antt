@@ -3,27 +3,27 @@ use Rattle.reader.proofs.Read.{hands, held_tokens, told, stop_here, counts, acce
 use Rattle.reader.proofs.Came.{descends}
 use lib.Seq.{length-take-le}
 use Prim.Native.Nat.{◌+◌, ◌*◌}
-use mathlib.Core.Path.{sym, ◌∙◌}
+use mathlib.Core.Path.{sym, refl, ◌∙◌}
 use native.Mathlib.Omega.{arith}
 use Rattle.reader.proofs.read_tokens.Goals as goal
 
-pub overflow_add-end : goal.overflow_add-end
-overflow_add-end c =
+pub overflow_add-words : goal.overflow_add-words
+overflow_add-words c =
     let h = hands c.requires.held in
     omega (arith, h.few, c.requires.held.small)
 
-pub overflow_mul-end : goal.overflow_mul-end
-overflow_mul-end c =
+pub overflow_mul-words : goal.overflow_mul-words
+overflow_mul-words c =
     let h = hands c.requires.held in
     omega (arith, h.few, c.requires.held.small)
 
-pub slice_bounds-program-end : goal.slice_bounds-program-end
-slice_bounds-program-end c =
+pub slice_bounds-words-end : goal.slice_bounds-words-end
+slice_bounds-words-end c =
     let h = hands c.requires.held in
     omega (arith, h.few, held_tokens c.requires.held)
 
-pub slice_bounds-program-end-2 : goal.slice_bounds-program-end-2
-slice_bounds-program-end-2 c =
+pub slice_bounds-words-end-2 : goal.slice_bounds-words-end-2
+slice_bounds-words-end-2 c =
     let h = hands c.requires.held in
     sym (length-take-le (3 * (c.args.count + 1)) c.args.tokens.now (omega (arith, h.few, held_tokens c.requires.held)))
 
@@ -36,47 +36,28 @@ pub finish-requires : goal.finish-requires
 finish-requires c =
     let p = c.requires.held in
     let h = hands p in
-    record { tree_len = c.program.auto.tree ∙ c.requires.tree_len; counted = counts p h (told c.in-Node.is (descends h c.program.ensures)) }
+    record { tree_len = c.program.auto.tree ∙ c.requires.tree_len; counted = counts p h (told c.in-Ok.is (descends h c.program.ensures)) }
 
-pub slice_bounds-code_at-end : goal.slice_bounds-code_at-end
-slice_bounds-code_at-end c =
+pub code_at-requires : goal.code_at-requires
+code_at-requires c =
     let h = hands c.requires.held in
-    omega (arith, h.few, held_tokens c.requires.held)
-
-pub slice_bounds-code_at-end-in-Refused : goal.slice_bounds-code_at-end-in-Refused
-slice_bounds-code_at-end-in-Refused c =
-    let h = hands c.requires.held in
-    sym (length-take-le (3 * (c.args.count + 1)) c.args.tokens.now (omega (arith, h.few, held_tokens c.requires.held)))
-
-pub code_at-code-requires : goal.code_at-code-requires
-code_at-code-requires c =
-    let h = hands c.requires.held in
-    omega (arith, stop_here (told c.in-Refused.is (descends h c.program.ensures)), length-take-le (3 * (c.args.count + 1)) c.args.tokens.now (omega (arith, h.few, held_tokens c.requires.held)))
-
-pub slice_bounds-start_at-end : goal.slice_bounds-start_at-end
-slice_bounds-start_at-end c =
-    let h = hands c.requires.held in
-    omega (arith, h.few, held_tokens c.requires.held)
-
-pub slice_bounds-start_at-end-in-Refused : goal.slice_bounds-start_at-end-in-Refused
-slice_bounds-start_at-end-in-Refused c =
-    let h = hands c.requires.held in
-    sym (length-take-le (3 * (c.args.count + 1)) c.args.tokens.now (omega (arith, h.few, held_tokens c.requires.held)))
+    omega (arith, stop_here (told c.in-Err.is (descends h c.program.ensures)), length-take-le (3 * (c.args.count + 1)) c.args.tokens.now (omega (arith, h.few, held_tokens c.requires.held)))
 
 pub start_at-place-requires : goal.start_at-place-requires
 start_at-place-requires c =
     let h = hands c.requires.held in
-    omega (arith, stop_here (told c.in-Refused.is (descends h c.program.ensures)), length-take-le (3 * (c.args.count + 1)) c.args.tokens.now (omega (arith, h.few, held_tokens c.requires.held)))
+    omega (arith, stop_here (told c.in-Err.is (descends h c.program.ensures)), length-take-le (3 * (c.args.count + 1)) c.args.tokens.now (omega (arith, h.few, held_tokens c.requires.held)))
 
-pub returns-in-Node : goal.returns-in-Node
-returns-in-Node c =
+pub returns-in-Ok : goal.returns-in-Ok
+returns-in-Ok c =
     let p = c.requires.held in
     let h = hands p in
-    accepts p h (c.program.auto.tree ∙ c.requires.tree_len) (told c.in-Node.is (descends h c.program.ensures)) c.finish.ensures.value c.finish.ensures.tree_after
+    accepts p h (c.program.auto.tree ∙ c.requires.tree_len) (told c.in-Ok.is (descends h c.program.ensures)) refl c.finish.ensures
 
-pub returns-in-Refused : goal.returns-in-Refused
-returns-in-Refused c =
+pub returns-in-Err : goal.returns-in-Err
+returns-in-Err c =
     let p = c.requires.held in
     let h = hands p in
     let e = c.clear.ensures in
-    refuses p h (c.program.auto.tree ∙ c.requires.tree_len) (told c.in-Refused.is (descends h c.program.ensures)) c.stopped_by.ensures c.code_at-code.ensures c.start_at-place.ensures e.tokens_after e.text_after e.tree_after
+    let told_by = c.stopped_by-reason.ensures in
+    refuses p h (c.program.auto.tree ∙ c.requires.tree_len) (told c.in-Err.is (descends h c.program.ensures)) told_by c.code_at.ensures c.start_at-place.ensures e.tokens_after e.text_after e.tree_after
