@@ -1,20 +1,14 @@
 -- An answer's words, and the two ways of a call: no room for the answer, and the reader's outcome.
 -- Assumes nothing.
-use mathlib.Core.Path.{◌≡◌, refl, sym, ap, subst, ◌∙◌}
+use mathlib.Core.Path.{◌≡◌, refl, ap, ◌∙◌}
 use mathlib.Core.Bool.{true, false}
 use mathlib.Core.List.{List, ◌++◌}
 use Prim.Native.Nat.{ℕ, ◌≤◌, ◌<◌}
 use borrow.Author.Tests.{lt-ltb, le-ltb}
 use lib.ListN.{length, drop}
-use Rattle.reader.specs.Answer.{Numbers, numbers_of}
+use Rattle.reader.specs.Answer.{Answer, Numbers, numbers_of}
 use Rattle.reader.specs.Reads.{Reads}
-use Rattle.reader.specs.declared.Answer.{Answer}
 use Rattle.ffi.specs.Called.{words, few, Called}
-
--- the words of an answer that is told
-pub wrote : {r q : Answer} {n : ℕ} {answer : List ℕ} (answer₀ : List ℕ) → r ≡ q → (n ≡ (numbers_of q).number) × (answer ≡ words (numbers_of q) ++ drop 6 answer₀)
-    → (n ≡ (numbers_of r).number) × (answer ≡ words (numbers_of r) ++ drop 6 answer₀)
-wrote {n = n} {answer = answer} answer₀ e w = subst (λ (x : Answer). (n ≡ (numbers_of x).number) × (answer ≡ words (numbers_of x) ++ drop 6 answer₀)) (sym e) w
 
 pub no_room : (src tokens text tree answer : List ℕ) → length answer < 6 → Called src 4294967295 tokens text tree answer tokens text tree answer
 no_room src tokens text tree answer h =

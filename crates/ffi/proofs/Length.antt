@@ -3,7 +3,7 @@
 use mathlib.Core.Path.{◌≡◌, refl, ap}
 use mathlib.Core.Bool.{Bool, true, false, cond}
 use mathlib.Core.List.{List, ◌++◌}
-use Prim.Native.Nat.{ℕ, ◌-◌, ◌≤◌, min}
+use Prim.Native.Nat.{ℕ, ◌-◌, ◌≤◌}
 use native.Mathlib.Omega.{arith}
 use lib.Dec.{ltb}
 use lib.ListN.{length, replicate}
@@ -12,12 +12,12 @@ use Rattle.ast.specs.Node.{Node}
 use Rattle.standard.specs.Erase.{said}
 use Rattle.standard.specs.Hollow.{any_hollow_lem}
 use Rattle.standard.specs.Text.{standard_text}
-use Rattle.reader.specs.declared.Answer as reading
+use Rattle.reader.specs.Answer as reading
 use Rattle.writing.specs.Written.{room}
 use Rattle.writer.specs.Answer.{numbers_of, read_of}
-use Rattle.writer.specs.Writes.{Result, result, accepts, Rewrites, Writes}
+use Rattle.writer.specs.Writes.{Result, result, accepts, Writes}
 use Rattle.writer.specs.declared.Answer.{Answer}
-use Rattle.writer.specs.declared.Answer.TheVariants.{Text, Hollow, Full, Unread}
+use Rattle.writer.specs.declared.Answer.TheVariants.{Text, Hollow, Full}
 
 -- 18 where it is longer
 in_room : (a : reading.Answer) (ns : List Node) (s out₀ : List ℕ) → (numbers_of (result a ns s out₀).answer).length ≤ 65536

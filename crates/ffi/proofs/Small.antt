@@ -9,35 +9,32 @@ use native.Mathlib.Omega.{arith}
 use lib.Dec.{ltb}
 use lib.ListN.{length, get_or, drop, length-drop}
 use borrow.Author.Tests.{ltb-false}
+use Rattle.std.specs.Prelude.{Ok, Err, Option, Some, None}
 use Rattle.areas.specs.Area.{token_area}
 use Rattle.utf8.specs.Table.{sequence_length, step, first_ill_formed, utf8_error_lem}
-use Rattle.utf8.specs.declared.Utf8.{Utf8}
-use Rattle.utf8.specs.declared.Utf8.TheVariants.{WellFormed, IllFormed}
 use Rattle.grammar.specs.Descent as Descent
 use Rattle.grammar.specs.Descent.{descend}
 use Rattle.tokens.specs.Token.{Token}
 use Rattle.literal.specs.declared.Literal.TheVariants as L
 use Rattle.lexer.specs.Scan.{Scan, scanned, refused, token_list}
-use Rattle.lexer.proofs.Properties.{Each, Each.none, Each.more, Spanned}
+use Rattle.lexer.proofs.Properties.{Each, Each.more, Spanned}
 use Rattle.lexer.proofs.Laws.{tokens_spanned}
 use Rattle.lexer.proofs.Refusals.{refusals}
 use Rattle.pyhyeon.specs.Action.{machine}
 use Rattle.pyhyeon.specs.Rules.{Program}
 use Rattle.pyhyeon.specs.Tables.{depth, pyhyeon}
 use Rattle.pyhyeon.specs.Reading.{Descended, Accepted, TooDeep, Misfit, place_of, start, descended, descent}
-use Rattle.reader.specs.Answer.{numbers_of, written}
+use Rattle.reader.specs.Answer.{Answer, no, numbers_of, written}
 use Rattle.reader.specs.Outcome.{untouched, of_descent, of_scan, of_utf8, tree_area, outcome}
 use Rattle.reader.specs.Reads.{Reads}
-use Rattle.reader.specs.declared.Answer.{Answer}
-use Rattle.reader.specs.declared.Answer.TheVariants.{Tree, No, Stopped}
 use Rattle.ffi.specs.Called.{Small}
 
 -- ---- the place
 
 -- an ill-formed sequence begins at a byte
-abbrev Ill : ℕ → Utf8 → Type 0
-Ill n WellFormed = Unit {0}
-Ill n (IllFormed place) = place ≤ n
+abbrev Ill : ℕ → Option ℕ → Type 0
+Ill n None = Unit {0}
+Ill n (Some place) = place ≤ n
 
 ill_within : (fuel i n : ℕ) (l : List ℕ) → length l ≡ n - i → Ill n (first_ill_formed fuel i l)
 unfolding first_ill_formed
@@ -86,16 +83,16 @@ by_scan src = go (token_list src) refl
     go (refused number place) e = (refusals src number place e).within
     go (scanned ts bs) e = by_descent (length src) ts bs (descent src ts) (place_within src ts bs e)
 
-by_utf8 : (src : List ℕ) (u : Utf8) → Ill (length src) u → (numbers_of (of_utf8 src u).answer).place ≤ length src
-by_utf8 src (IllFormed place) h = h
-by_utf8 src WellFormed h = by_scan src
+by_utf8 : (src : List ℕ) (u : Option ℕ) → Ill (length src) u → (numbers_of (of_utf8 src u).answer).place ≤ length src
+by_utf8 src (Some place) h = h
+by_utf8 src None h = by_scan src
 
 placed : (src : List ℕ) (tokens text tree : ℕ) → Placed src (outcome src tokens text tree).answer
 unfolding outcome
 placed src tokens text tree =
     go (ltb 65536 (length src)) (ltb-false 65536 (length src)) (ltb tokens (token_area (length src))) (ltb text (length src)) (ltb tree (tree_area (length src)))
   where
-    none : (number : ℕ) → Placed src (No number 0)
+    none : (number : ℕ) → Placed src (no number 0)
     none number = record { short = inr (refl, refl); place = omega arith }
 
     go : (a : Bool) → (a ≡ false → length src ≤ 65536) → (b c d : Bool) → Placed src (cond a (untouched 1 0) (cond b (untouched 2 0) (cond c (untouched 3 0) (cond d (untouched 4 0) (of_utf8 src (utf8_error_lem src)))))).answer
@@ -108,9 +105,8 @@ placed src tokens text tree =
 -- ---- the counts
 
 shown_few : (r : Answer) → (numbers_of r).nodes ≤ written r
-shown_few (Tree t n x o) = omega arith
-shown_few (No number place) = omega arith
-shown_few (Stopped number place t n o) = omega arith
+shown_few (Ok t) = omega arith
+shown_few (Err s) = omega arith
 
 pub small : (src tokens₀ text₀ tree₀ tokens text tree : List ℕ) (r : Answer) → Reads src r tokens₀ text₀ tree₀ tokens text tree → Small (numbers_of r)
 small src tokens₀ text₀ tree₀ tokens text tree r h = by p.short

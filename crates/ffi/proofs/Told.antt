@@ -7,8 +7,8 @@ use Prim.Native.Nat.{ℕ, ◌≤◌, ◌<◌}
 use native.Mathlib.Omega.{arith}
 use borrow.Author.Tests.{lt-ltb, le-ltb}
 use lib.ListN.{length, set, drop}
+use Rattle.std.specs.Prelude.{Option}
 use Rattle.utf8.specs.Table.{utf8_error_lem, rounds}
-use Rattle.utf8.specs.declared.Utf8.{Utf8}
 use Rattle.ffi.specs.Called.{few}
 use Rattle.ffi.specs.Checks.{number, place, Checks}
 
@@ -24,12 +24,12 @@ stores (x ∷ []) a b h = absurd (omega arith)
 stores (x ∷ y ∷ l) a b h = refl
 
 -- what was found, as this case of it
-pub told : (src answer : List ℕ) (k : ℕ) {u : Utf8} (v : Utf8) → 2 ≤ length answer → u ≡ utf8_error_lem src → u ≡ v → k ≡ rounds src
+pub told : (src answer : List ℕ) (k : ℕ) {u : Option ℕ} (v : Option ℕ) → 2 ≤ length answer → u ≡ utf8_error_lem src → u ≡ v → k ≡ rounds src
     → Checks src (number v) answer (set (set answer 1 k) 0 (place v))
 told src answer k v h is as-case counted =
     let f : few 2 answer ≡ false = le-ltb _ _ h in
     let e : v ≡ utf8_error_lem src = sym as-case ∙ is in
     record {
       returned = rw f (ap number e);
-      answer_is = rw f (stores answer (place v) k h ∙ ap (λ (x : Utf8). place x ∷ k ∷ drop 2 answer) e ∙ ap (λ (n : ℕ). place (utf8_error_lem src) ∷ n ∷ drop 2 answer) counted);
+      answer_is = rw f (stores answer (place v) k h ∙ ap (λ (x : Option ℕ). place x ∷ k ∷ drop 2 answer) e ∙ ap (λ (n : ℕ). place (utf8_error_lem src) ∷ n ∷ drop 2 answer) counted);
     }

@@ -1,20 +1,18 @@
 -- What a call of the check alone comes to: question 5's definition and the rounds beside it, as words of 64 bits.
 -- Assumes nothing.
-use Rattle.std.specs.Prelude.{ℕ, ◌≡◌, cond, List, ◌∷◌, drop}
+use Rattle.std.specs.Prelude.{ℕ, ◌≡◌, cond, List, ◌∷◌, drop, Option, Some, None}
 use Rattle.utf8.specs.Table.{utf8_error_lem, rounds}
-use Rattle.utf8.specs.declared.Utf8.{Utf8}
-use Rattle.utf8.specs.declared.Utf8.TheVariants.{WellFormed, IllFormed}
 use Rattle.ffi.specs.Called.{few}
 
 -- "UTF-8 by Unicode table 3-7? No: 5"
-abbrev pub number : Utf8 → ℕ
-number WellFormed = 0
-number (IllFormed place) = 5
+abbrev pub number : Option ℕ → ℕ
+number None = 0
+number (Some place) = 5
 
 -- "first byte of the bad sequence"; "acceptance has number 0 and place 0"
-abbrev pub place : Utf8 → ℕ
-place WellFormed = 0
-place (IllFormed i) = i
+abbrev pub place : Option ℕ → ℕ
+place None = 0
+place (Some i) = i
 
 -- The number r that is returned for a text of any length, and the answer's slice before and after. With fewer than two words nothing is written,
 -- and 4294967295 is returned.

@@ -2,7 +2,7 @@
 ghost use Rattle.ffi.specs.Checks.{Checks};
 
 use crate::NO_ANSWER;
-use utf8::Utf8;
+use source::Reason;
 
 // The words of its answer, of 64 bits each, since the text may have any length: place, rounds.
 pub const CHECKED: usize = 2;
@@ -18,15 +18,14 @@ pub extern "C" fn tarbucket_utf8_error(src: &[u8], answer: &mut [u64]) -> u32
     }
     let checked = utf8::utf8_error(src);
     answer[1] = checked.rounds as u64;
-    let found = checked.found;
-    match found {
-        Utf8::WellFormed => {
+    match checked.found {
+        None => {
             answer[0] = 0;
             0
         }
-        Utf8::IllFormed(place) => {
+        Some(place) => {
             answer[0] = place as u64;
-            5
+            Reason::NotUtf8.number()
         }
     }
 }

@@ -17,52 +17,40 @@ pub const ANSWER: usize = 6;
 // What is returned where the answer's slice has too few words.
 pub const NO_ANSWER: u32 = 4294967295;
 
-fn put(
-    answer: &mut [u32],
-    number: u32,
-    place: usize,
-    tokens: usize,
-    nodes: usize,
-    text: usize,
-    openings: usize,
-) -> u32
-    requires in_bounds { 6 ≤ length answer.old }
-    requires small { Small (record { number = number; place = place; tokens = tokens; nodes = nodes; text = text; openings = openings }) }
-    ensures value { result ≡ number }
-    ensures answer_after { answer.new ≡ words (record { number = number; place = place; tokens = tokens; nodes = nodes; text = text; openings = openings }) ++ drop 6 answer.old }
+// An answer's numbers, 0 for N and the bytes of text in a refusal.
+fn numbers(r: Answer) -> [u32; 6]
+    requires { Small (numbers_of r) }
+    ensures { result ≡ words (numbers_of r) }
 {
-    answer[0] = number;
-    answer[1] = place as u32;
-    answer[2] = tokens as u32;
-    answer[3] = nodes as u32;
-    answer[4] = text as u32;
-    answer[5] = openings as u32;
-    number
+    match r {
+        Ok(tree) => [
+            0,
+            0,
+            tree.tokens as u32,
+            tree.nodes as u32,
+            tree.text as u32,
+            tree.openings as u32,
+        ],
+        Err(stop) => [
+            stop.refusal.reason.number(),
+            stop.refusal.place as u32,
+            stop.tokens as u32,
+            0, // N
+            0,
+            stop.openings as u32,
+        ],
+    }
 }
 
-// An answer's numbers, 0 for N in a refusal.
+// Puts them into the words that are lent, and answers the number.
 fn write(r: Answer, answer: &mut [u32]) -> u32
     requires in_bounds { 6 ≤ length answer.old }
     requires small { Small (numbers_of r) }
     ensures value { result ≡ (numbers_of r).number }
     ensures answer_after { answer.new ≡ words (numbers_of r) ++ drop 6 answer.old }
 {
-    match r {
-        Answer::Tree {
-            tokens,
-            nodes,
-            text,
-            openings,
-        } => put(answer, 0, 0, tokens, nodes, text, openings),
-        Answer::No { number, place } => put(answer, number, place, 0, 0, 0, 0),
-        Answer::Stopped {
-            number,
-            place,
-            tokens,
-            nodes: _,
-            openings,
-        } => put(answer, number, place, tokens, 0, 0, openings),
-    }
+    answer[..6].copy_from_slice(&numbers(r));
+    answer[0]
 }
 
 // Reads a source, as `reader::parse_source` does, and writes its answer as words. Returns the number.

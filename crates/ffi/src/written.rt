@@ -1,24 +1,27 @@
 // The writer: from a source its standard text.
 ghost use Rattle.std.specs.Prelude.{◌≡◌, ◌++◌, ◌≤◌, length, drop};
+ghost use Rattle.source.specs.Reasons.{number_of};
 ghost use Rattle.reader.specs.Answer as reading;
 ghost use Rattle.writer.specs.Answer.{instead, numbers_of, read_of};
 ghost use Rattle.ffi.specs.Called.{words, Small};
 ghost use Rattle.ffi.specs.Wrote.{seven, Wrote};
 
 use crate::NO_ANSWER;
+use source::Reason;
 use writer::Answer;
 
 // The words of its answer: those of the reader's, and the length of the text.
 pub const WRITTEN: usize = 7;
 
 // The counts of an accepted source, with the writer's number and place 0.
-fn refuse(number: u32, read: reader::Answer, answer: &mut [u32]) -> u32
+fn refuse(reason: Reason, read: reader::Answer, answer: &mut [u32]) -> u32
     requires in_bounds { 6 ≤ length answer.old }
     requires small { Small (reading.numbers_of read) }
-    ensures value { result ≡ number }
-    ensures answer_after { answer.new ≡ words (instead number (reading.numbers_of read)) ++ drop 6 answer.old }
+    ensures value { result ≡ number_of reason }
+    ensures answer_after { answer.new ≡ words (instead (number_of reason) (reading.numbers_of read)) ++ drop 6 answer.old }
 {
     crate::write(read, answer);
+    let number = reason.number();
     answer[0] = number;
     answer[1] = 0;
     number
@@ -39,11 +42,11 @@ fn tell(r: Answer, answer: &mut [u32]) -> u32
         }
         Answer::Hollow(read) => {
             answer[6] = 0;
-            refuse(17, read, answer)
+            refuse(Reason::EmptyBlock, read, answer)
         }
         Answer::Full(read) => {
             answer[6] = 0;
-            refuse(18, read, answer)
+            refuse(Reason::NoRoom, read, answer)
         }
         Answer::Unread(read) => {
             answer[6] = 0;

@@ -20,8 +20,6 @@ use Rattle.standard.proofs.Top.{script_stands}
 use Rattle.reader.specs.Answer as reader
 use Rattle.reader.specs.Outcome.{Outcome, tree_area, header, records, after, outcome}
 use Rattle.reader.specs.Reads.{Reads}
-use Rattle.reader.specs.declared.Answer as reading
-use Rattle.reader.specs.declared.Answer.TheVariants.{Tree}
 use Rattle.reader.proofs.Filled.{nodes_are, area_front, area_records, length_records}
 use Rattle.writing.specs.Written.{room}
 use Rattle.writer.specs.Answer.{numbers_of, read_of}
@@ -40,7 +38,7 @@ is_text (Hollow a) = false
 is_text (Full a) = false
 is_text (Unread a) = false
 
-module _ (a : reading.Answer) (ns : List Node) (s out₀ : List ℕ) {r : Answer} {out : List ℕ} (e : record { answer = r; out = out } ≡ result a ns s out₀) where
+module _ (a : reader.Answer) (ns : List Node) (s out₀ : List ℕ) {r : Answer} {out : List ℕ} (e : record { answer = r; out = out } ≡ result a ns s out₀) where
   -- the reader's answer is in it
   of_reader : read_of r ≡ a
   of_reader = ap (λ (x : Result). read_of x.answer) e ∙ go (any_hollow_lem ns) (ltb (room (length out₀)) (length s))
@@ -52,7 +50,7 @@ module _ (a : reading.Answer) (ns : List Node) (s out₀ : List ℕ) {r : Answer
       go false false = refl
 
   -- its numbers
-  of_numbers : {t n b o : ℕ} → a ≡ Tree t n b o → numbers_of r ≡ numbers_by (reader.numbers_of a) (length s) (any_hollow_lem ns) (ltb (room (length out₀)) (length s))
+  of_numbers : {t n b o : ℕ} → a ≡ reader.tree t n b o → numbers_of r ≡ numbers_by (reader.numbers_of a) (length s) (any_hollow_lem ns) (ltb (room (length out₀)) (length s))
   of_numbers i = ap (λ (x : Result). numbers_of x.answer) e ∙ go (any_hollow_lem ns) (ltb (room (length out₀)) (length s))
     where
       go : (h l : Bool) → numbers_of (by_tests a s out₀ h l).answer ≡ numbers_by (reader.numbers_of a) (length s) h l
@@ -76,21 +74,21 @@ module _ (a : reading.Answer) (ns : List Node) (s out₀ : List ℕ) {r : Answer
 
 -- ---- a source that the reader accepts, with this answer, and the three slices before and after
 
-module _ (src tokens₀ text₀ tree₀ tokens text tree : List ℕ) (a : reading.Answer) {t nodes used o : ℕ} (is : a ≡ Tree t nodes used o) (rd : Reads src a tokens₀ text₀ tree₀ tokens text tree) where
-  answered : (outcome src (length tokens₀) (length text₀) (length tree₀)).answer ≡ Tree t nodes used o
+module _ (src tokens₀ text₀ tree₀ tokens text tree : List ℕ) (a : reader.Answer) {t nodes used o : ℕ} (is : a ≡ reader.tree t nodes used o) (rd : Reads src a tokens₀ text₀ tree₀ tokens text tree) where
+  answered : (outcome src (length tokens₀) (length text₀) (length tree₀)).answer ≡ reader.tree t nodes used o
   answered = sym rd.answer ∙ is
 
   x : Read src (length tokens₀) (length text₀) (length tree₀)
   x = accepted_read src (length tokens₀) (length text₀) (length tree₀) answered
 
-  counted : Tree t nodes used o ≡ Tree x.work.tokens (length x.work.nodes) (length x.bytes) x.work.openings
+  counted : reader.tree t nodes used o ≡ reader.tree x.work.tokens (length x.work.nodes) (length x.bytes) x.work.openings
   counted = sym answered ∙ ap (λ (y : Outcome). y.answer) x.is
 
   nodes_many : nodes ≡ length x.work.nodes
-  nodes_many = ap (λ (r : reading.Answer). (reader.numbers_of r).nodes) counted
+  nodes_many = ap (λ (r : reader.Answer). (reader.numbers_of r).nodes) counted
 
   used_many : used ≡ length x.bytes
-  used_many = ap (λ (r : reading.Answer). (reader.numbers_of r).text) counted
+  used_many = ap (λ (r : reader.Answer). (reader.numbers_of r).text) counted
 
   -- the strings, in front of the text
   strings : take used text ≡ x.bytes
@@ -121,7 +119,7 @@ module _ (src tokens₀ text₀ tree₀ tokens text tree : List ℕ) (a : readin
       omega (arith, nodes_many, ap length tree_is, length-append (filled ++ zeros) (drop (tree_area (length src)) tree₀), length-append filled zeros, length-append front (records x.work.nodes), length_records x.work.nodes)
 
   few : nodes ≤ none
-  few = omega (arith, ap reader.written is, ap (λ (r : reading.Answer). (reader.numbers_of r).tokens) is, rd.few_nodes, rd.few_tokens, accepted_short src (length tokens₀) (length text₀) (length tree₀) answered)
+  few = omega (arith, ap reader.written is, ap (λ (r : reader.Answer). (reader.numbers_of r).tokens) is, rd.few_nodes, rd.few_tokens, accepted_short src (length tokens₀) (length text₀) (length tree₀) answered)
 
   of : TreeOf src x.toks x.work.nodes
   of = (script_stands src x.toks x.bytes x.scans x.work x.descends).of
@@ -129,10 +127,10 @@ module _ (src tokens₀ text₀ tree₀ tokens text tree : List ℕ) (a : readin
   pub lent : Accepted src (take used text) tree nodes
   lent = record { toks = x.toks; scans = x.scans ∙ ap (scanned x.toks) (sym strings); of = subst (TreeOf src x.toks) (sym in_tree) of; held = tree_long; few = few }
 
-  module _ (out₀ : List ℕ) (r : Answer) (out : List ℕ) (w : Rewritten (Tree t nodes used o) src (take used text) tree nodes out₀ r out) where
+  module _ (out₀ : List ℕ) (r : Answer) (out : List ℕ) (w : Rewritten (reader.tree t nodes used o) src (take used text) tree nodes out₀ r out) where
     by_tree : (t : TreeOf src x.toks x.work.nodes) → record { answer = r; out = out } ≡ result a x.work.nodes (standard_text (said src x.bytes t.tree)) out₀
     by_tree t =
-        let u : Rewritten a src (take used text) tree nodes out₀ r out = subst (λ (b : reading.Answer). Rewritten b src (take used text) tree nodes out₀ r out) (sym is) w in
+        let u : Rewritten a src (take used text) tree nodes out₀ r out = subst (λ (b : reader.Answer). Rewritten b src (take used text) tree nodes out₀ r out) (sym is) w in
         let v : Rewritten a src x.bytes tree nodes out₀ r out = subst (λ (bs : List ℕ). Rewritten a src bs tree nodes out₀ r out) strings u in
         subst (λ (ns : List Node). (t : TreeOf src x.toks ns) → record { answer = r; out = out } ≡ result a ns (standard_text (said src x.bytes t.tree)) out₀) in_tree (v x.toks x.scans) t
 
@@ -147,13 +145,13 @@ module _ (src tokens₀ text₀ tree₀ tokens text tree : List ℕ) (a : readin
     told =
         let e = sym (of_reader a x.work.nodes (standard_text (said src x.bytes of.tree)) out₀ (by_tree of)) in
         record {
-          reads = subst (λ (b : reading.Answer). Reads src b tokens₀ text₀ tree₀ tokens text tree) e rd;
+          reads = subst (λ (b : reader.Answer). Reads src b tokens₀ text₀ tree₀ tokens text tree) e rd;
           unread = λ f. absurd (true≢false (sym (ap accepts is) ∙ ap accepts e ∙ f));
           refused = λ f. absurd (true≢false (sym (ap accepts is) ∙ ap accepts e ∙ f));
-          rewrites = λ _. subst (λ (b : reading.Answer). Rewrites src (length tokens₀) (length text₀) (length tree₀) b out₀ r out) e (record { read = x; of = of; is = by_tree; numbers = λ t. of_numbers a x.work.nodes (standard_text (said src x.bytes t.tree)) out₀ (by_tree t) is; back = back });
+          rewrites = λ _. subst (λ (b : reader.Answer). Rewrites src (length tokens₀) (length text₀) (length tree₀) b out₀ r out) e (record { read = x; of = of; is = by_tree; numbers = λ t. of_numbers a x.work.nodes (standard_text (said src x.bytes t.tree)) out₀ (by_tree t) is; back = back });
         }
 
 -- ---- one that it refuses
 
-pub refused : (src tokens₀ text₀ tree₀ out₀ tokens text tree : List ℕ) (a : reading.Answer) → accepts a ≡ false → Reads src a tokens₀ text₀ tree₀ tokens text tree → Writes src (Unread a) tokens₀ text₀ tree₀ out₀ tokens text tree out₀
+pub refused : (src tokens₀ text₀ tree₀ out₀ tokens text tree : List ℕ) (a : reader.Answer) → accepts a ≡ false → Reads src a tokens₀ text₀ tree₀ tokens text tree → Writes src (Unread a) tokens₀ text₀ tree₀ out₀ tokens text tree out₀
 refused src tokens₀ text₀ tree₀ out₀ tokens text tree a f rd = record { reads = rd; unread = λ _. (refl, refl); refused = λ _. refl; rewrites = λ e. absurd (true≢false (sym e ∙ f)) }

@@ -8,10 +8,9 @@ use native.Mathlib.Omega.{arith}
 use borrow.Author.Tests.{le-ltb, ltb-false}
 use lib.Dec.{ltb}
 use lib.ListN.{length}
+use Rattle.std.specs.Prelude.{Option, Some, None}
 use Rattle.areas.specs.Area.{token_area}
 use Rattle.utf8.specs.Table.{utf8_error_lem}
-use Rattle.utf8.specs.declared.Utf8.{Utf8}
-use Rattle.utf8.specs.declared.Utf8.TheVariants.{WellFormed, IllFormed}
 use Rattle.lexer.specs.Scan.{Scan, scanned, refused, token_list}
 use Rattle.tokens.specs.Token.{Token}
 use Rattle.pyhyeon.specs.Reading.{Descended, Accepted, TooDeep, Misfit, descent}
@@ -20,7 +19,7 @@ use Rattle.standard.specs.Hollow.{any_hollow_lem}
 use Rattle.standard.specs.Text.{standard_text}
 use Rattle.standard.proofs.Top.{script_stands}
 use Rattle.standard.proofs.ReadBack.{read_back}
-use Rattle.reader.specs.declared.Answer.TheVariants.{Tree}
+use Rattle.reader.specs.Answer as reading
 use Rattle.reader.specs.Outcome.{Outcome, tree_area, outcome, untouched, of_descent, of_scan, of_utf8}
 use Rattle.writer.specs.Back.{Read, Written}
 use Rattle.writer.specs.Writes.{accepts}
@@ -28,22 +27,22 @@ use Rattle.writer.specs.Writes.{accepts}
 -- ---- which sources are accepted
 
 module _ (source : List ℕ) (tokens text tree : ℕ) where
-  descended : (ts : List Token) (bs : List ℕ) (d : Descended) → descent source ts ≡ d → utf8_error_lem source ≡ WellFormed → token_list source ≡ scanned ts bs →
+  descended : (ts : List Token) (bs : List ℕ) (d : Descended) → descent source ts ≡ d → utf8_error_lem source ≡ None → token_list source ≡ scanned ts bs →
       outcome source tokens text tree ≡ of_descent (length source) ts bs d → accepts (of_descent (length source) ts bs d).answer ≡ true → Read source tokens text tree
   descended ts bs (Accepted w) e u s o t = record { toks = ts; bytes = bs; work = w; well_formed = u; scans = s; descends = e; is = o }
   descended ts bs (TooDeep p w) e u s o t = let z : ◌≡◌ {A = ℕ} 0 1 = cc in absurd (omega arith)
   descended ts bs (Misfit f p w) e u s o t = let z : ◌≡◌ {A = ℕ} 0 1 = cc in absurd (omega arith)
 
-  scans_to : (r : Scan) → token_list source ≡ r → utf8_error_lem source ≡ WellFormed → outcome source tokens text tree ≡ of_scan source r → accepts (of_scan source r).answer ≡ true → Read source tokens text tree
+  scans_to : (r : Scan) → token_list source ≡ r → utf8_error_lem source ≡ None → outcome source tokens text tree ≡ of_scan source r → accepts (of_scan source r).answer ≡ true → Read source tokens text tree
   scans_to (scanned ts bs) e u o t = descended ts bs (descent source ts) refl u e o t
   scans_to (refused n p) e u o t = let z : ◌≡◌ {A = ℕ} 0 1 = cc in absurd (omega arith)
 
-  checks_to : (r : Utf8) → utf8_error_lem source ≡ r → outcome source tokens text tree ≡ of_utf8 source r → accepts (of_utf8 source r).answer ≡ true → Read source tokens text tree
-  checks_to WellFormed e o t = scans_to (token_list source) refl e o t
-  checks_to (IllFormed p) e o t = let z : ◌≡◌ {A = ℕ} 0 1 = cc in absurd (omega arith)
+  checks_to : (r : Option ℕ) → utf8_error_lem source ≡ r → outcome source tokens text tree ≡ of_utf8 source r → accepts (of_utf8 source r).answer ≡ true → Read source tokens text tree
+  checks_to None e o t = scans_to (token_list source) refl e o t
+  checks_to (Some p) e o t = let z : ◌≡◌ {A = ℕ} 0 1 = cc in absurd (omega arith)
 
   -- a source whose answer is a Tree
-  pub accepted_read : {t n b o : ℕ} → (outcome source tokens text tree).answer ≡ Tree t n b o → Read source tokens text tree
+  pub accepted_read : {t n b o : ℕ} → (outcome source tokens text tree).answer ≡ reading.tree t n b o → Read source tokens text tree
   unfolding outcome
   accepted_read e = go (ltb 65536 (length source)) (ltb tokens (token_area (length source))) (ltb text (length source)) (ltb tree (tree_area (length source))) refl (ap accepts e)
     where
@@ -58,7 +57,7 @@ module _ (source : List ℕ) (tokens text tree : ℕ) where
       go false false false false o t = checks_to (utf8_error_lem source) refl o t
 
   -- such a source is short
-  pub accepted_short : {t n b o : ℕ} → (outcome source tokens text tree).answer ≡ Tree t n b o → length source ≤ 65536
+  pub accepted_short : {t n b o : ℕ} → (outcome source tokens text tree).answer ≡ reading.tree t n b o → length source ≤ 65536
   unfolding outcome
   accepted_short e = go (ltb 65536 (length source)) (ltb-false 65536 (length source)) _ (ap accepts e)
     where

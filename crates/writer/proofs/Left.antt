@@ -1,11 +1,15 @@
 -- What is left to look at when k nodes are passed, of which none has a hollow block.
 -- Assumes nothing.
-use mathlib.Core.Path.{◌≡◌, ap}
+use mathlib.Core.Path.{◌≡◌, sym, ap, ◌∙◌}
 use mathlib.Core.Bool.{Bool, true, false}
 use mathlib.Core.List.{List}
 use Prim.Native.Nat.{ℕ, suc, ◌+◌, ◌-◌, ◌<◌, ◌≤◌}
 use native.Mathlib.Omega.{arith}
-use borrow.Author.Tests.{eq-eqb, ne_eqb}
+use borrow.Author.Tests.{eq-eqb, ne_eqb, eqb-true}
+use lib.Dec.{eqb}
+use Rattle.std.specs.Option.{option_eq}
+use Rattle.std.specs.Prelude.{Option, Some as some, None, unwrap_or}
+use Rattle.std.proofs.lemmas.Bool.{eqb-false}
 use Rattle.ast.specs.Node.{none}
 use Rattle.ast.specs.Words.{tabulate, node_at, nodes_of}
 use Rattle.standard.specs.Hollow.{block_of, any_hollow_lem}
@@ -34,3 +38,12 @@ module _ (tree : List ℕ) (nodes : ℕ) where
     pub left_passed : (block_of (node_at tree k) ≡ none → ⊥) → left tree nodes k ≡ left tree nodes (k + 1)
     unfolding left any_hollow_lem
     left_passed e = rw (more, ne_eqb (block_of (node_at tree k)) none e)
+
+-- as the code compares it
+pub found : (o : Option ℕ) (b : ℕ) {r : Bool} → r ≡ option_eq eqb o (some none) → unwrap_or o 0 ≡ b → r ≡ true → b ≡ none
+found None b h u k = absurd (let e : ◌≡◌ {A = Bool} true false = sym k ∙ h in cc)
+found (some x) b h u k = sym u ∙ eqb-true x none (sym h ∙ k)
+
+pub passed : (o : Option ℕ) (b : ℕ) {r : Bool} → r ≡ option_eq eqb o (some none) → unwrap_or o 0 ≡ b → r ≡ false → b ≡ none → ⊥
+passed None b h u k e = let z : 0 ≡ none = u ∙ e in omega arith
+passed (some x) b h u k e = eqb-false x none (sym h ∙ k) (u ∙ e)

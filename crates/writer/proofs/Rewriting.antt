@@ -6,7 +6,6 @@ use mathlib.Core.List.{List, [], map}
 use Prim.Native.Nat.{ℕ, ◌+◌, ◌*◌, ◌≤◌}
 use borrow.Author.Tests.{le-ltb, lt-ltb}
 use lib.ListN.{length}
-use Rattle.areas.specs.Area.{zeroed}
 use Rattle.tokens.specs.Token.{Token}
 use Rattle.lexer.specs.Scan.{scanned, token_list}
 use Rattle.ast.specs.Node.{none}
@@ -19,14 +18,12 @@ use Rattle.standard.specs.Text.{standard_text}
 use Rattle.standard.specs.Bare.{onto_b}
 use Rattle.standard.proofs.Shades.{flat_is}
 use Rattle.standard.proofs.Planted.{planted}
-use Rattle.reader.specs.declared.Answer as reading
-use Rattle.reader.proofs.Filled.{all_zero}
-use Rattle.writing.specs.Wrote.{Wrote}
+use Rattle.reader.specs.Answer as reading
+use Rattle.writing.specs.declared.back.Back.{Back}
+use Rattle.writing.specs.Wrote.{Wrote, Empty}
 use Rattle.writing.specs.Written.{room, Gives}
-use Rattle.writing.specs.declared.front.Written.{Written}
-use Rattle.writing.specs.declared.front.Written.TheVariants as written
+use Rattle.std.specs.Prelude.{Option, Some as some, None, replicate}
 use Rattle.writer_expr.specs.Laid.{Stands}
-use Rattle.writer_expr.specs.declared.Spot.{Spot}
 use Rattle.writer_expr.proofs.Bridge.{whole_stands}
 use Rattle.writer_stmt.specs.Lines.{SomeProgram, PutsProgram}
 use Rattle.writer.specs.Steps.{Accepted, Rewritten}
@@ -45,23 +42,23 @@ module _ (src text tree : List ℕ) (nodes : ℕ) where
 
   module _ (a : reading.Answer) (out : List ℕ) where
     -- a block with no statement
-    pub hollow_told : (to : ℕ) {out' : List ℕ} → any_hollow_lem (nodes_of tree nodes) ≡ true → to ≡ length out → out' ≡ zeroed 0 to out → Rewritten a src text tree nodes out (Hollow a) out'
-    hollow_told to h n e toks s t = rw h (ap (λ (o : List ℕ). record { answer = Hollow a; out = o }) (e ∙ all_zero out n))
+    pub hollow_told : {out' : List ℕ} → any_hollow_lem (nodes_of tree nodes) ≡ true → out' ≡ replicate (length out) 0 → Rewritten a src text tree nodes out (Hollow a) out'
+    hollow_told h e toks s t = rw h (ap (λ (o : List ℕ). record { answer = Hollow a; out = o }) e)
 
-    module _ (acc : Accepted src text tree nodes) (h : any_hollow_lem (nodes_of tree nodes) ≡ false) {at : ℕ} (out₁ : List ℕ) (r : Spot) (is : at ≡ room (length out) + 1) (puts : PutsProgram src text tree nodes out at out₁ r)
-        (w : Written) (out₂ : List ℕ) (front : (t before : List ℕ) (start : ℕ) → start ≡ room (length before) + 1 → Wrote t before start out₁ r.at → Gives t (length before) w out₂) where
+    module _ (acc : Accepted src text tree nodes) (h : any_hollow_lem (nodes_of tree nodes) ≡ false) (start done : Back) (r : ℕ) (empty : Empty start out) (puts : PutsProgram src text tree nodes start done r)
+        (w : Option ℕ) (out₂ : List ℕ) (front : (t before : List ℕ) (start : Back) → Empty start before → Wrote t start done → Gives t (length before) w out₂) where
       -- what becomes of the text of one tree
-      given : {v : Written} → w ≡ v → (toks : List Token) → token_list src ≡ scanned toks text → (t : TreeOf src toks (nodes_of tree nodes)) → Gives (standard_text (said src text t.tree)) (length out) v out₂
+      given : {v : Option ℕ} → w ≡ v → (toks : List Token) → token_list src ≡ scanned toks text → (t : TreeOf src toks (nodes_of tree nodes)) → Gives (standard_text (said src text t.tree)) (length out) v out₂
       given e toks s t =
           let x = said src text t.tree in
-          subst (λ (v : Written). Gives (standard_text x) (length out) v out₂) e (front (standard_text x) out at is (puts 0 x (tree_stands toks s t acc.held acc.few)).wrote)
+          subst (λ (v : Option ℕ). Gives (standard_text x) (length out) v out₂) e (front (standard_text x) out start empty (puts 0 x (tree_stands toks s t acc.held acc.few)).wrote)
 
-      pub text_told : {m : ℕ} → w ≡ written.Text m → Rewritten a src text tree nodes out (Text a m) out₂
+      pub text_told : {m : ℕ} → w ≡ some m → Rewritten a src text tree nodes out (Text a m) out₂
       text_told e toks s t =
           let g = given e toks s t in
           rw (h, le-ltb (room (length out)) (length (standard_text (said src text t.tree))) g.1) (ap₂ (λ (k : ℕ) (o : List ℕ). record { answer = Text a k; out = o }) g.0 g.2)
 
-      pub full_told : w ≡ written.Full → Rewritten a src text tree nodes out (Full a) out₂
+      pub full_told : w ≡ None → Rewritten a src text tree nodes out (Full a) out₂
       full_told e toks s t =
           let g = given e toks s t in
           rw (h, lt-ltb (room (length out)) (length (standard_text (said src text t.tree))) g.0) (ap (λ (o : List ℕ). record { answer = Full a; out = o }) g.1)

@@ -2,7 +2,6 @@
 -- Assumes nothing.
 use Rattle.std.specs.Prelude.{ℕ}
 use Rattle.reader.specs.Answer as reader
-use Rattle.reader.specs.declared.Answer as reading
 use Rattle.writer.specs.declared.Answer.{Answer}
 use Rattle.writer.specs.declared.Answer.TheVariants.{Text, Hollow, Full, Unread}
 
@@ -24,7 +23,7 @@ numbers_of (Full a) = record { six = instead 18 (reader.numbers_of a); length = 
 numbers_of (Unread a) = record { six = reader.numbers_of a; length = 0 }
 
 -- what the reader answered
-abbrev pub read_of : Answer → reading.Answer
+abbrev pub read_of : Answer → reader.Answer
 read_of (Text a m) = a
 read_of (Hollow a) = a
 read_of (Full a) = a

@@ -1,9 +1,8 @@
 -- What becomes of the standard text where it is read (02, change 6).
 -- Assumes nothing.
-use Rattle.std.specs.Prelude.{ℕ, ◌≤◌, ◌≡◌, false, List, length}
+use Rattle.std.specs.Prelude.{ℕ, ◌≤◌, ◌≡◌, false, List, length, None}
 use Rattle.areas.specs.Area.{token_area}
 use Rattle.utf8.specs.Table.{utf8_error_lem}
-use Rattle.utf8.specs.declared.Utf8.TheVariants.{WellFormed}
 use Rattle.tokens.specs.Token.{Token}
 use Rattle.lexer.specs.Scan.{scanned, token_list}
 use Rattle.ast.specs.Node.{Node}
@@ -20,7 +19,7 @@ pub record Read (source : List ℕ) (tokens text tree : ℕ) : Type 0 where
   pub toks : List Token
   pub bytes : List ℕ
   pub work : Work
-  pub well_formed : utf8_error_lem source ≡ WellFormed
+  pub well_formed : utf8_error_lem source ≡ None
   pub scans : token_list source ≡ scanned toks bytes
   pub descends : descent source toks ≡ Accepted work
   pub is : outcome source tokens text tree ≡ accepted (length source) toks bytes work

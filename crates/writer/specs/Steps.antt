@@ -8,7 +8,7 @@ use Rattle.ast.specs.Words.{nodes_of}
 use Rattle.trees.specs.Law.{TreeOf}
 use Rattle.standard.specs.Erase.{said}
 use Rattle.standard.specs.Text.{standard_text}
-use Rattle.reader.specs.declared.Answer as reading
+use Rattle.reader.specs.Answer as reading
 use Rattle.writer.specs.Writes.{result}
 use Rattle.writer.specs.declared.Answer.{Answer}
 

@@ -1,14 +1,12 @@
 -- What the writer promises: one record, with a field for each promise (02, change 6).
 -- Assumes nothing.
-use Rattle.std.specs.Prelude.{ℕ, ◌-◌, ◌≡◌, Bool, true, false, cond, List, ◌++◌, ltb, length, take, replicate}
+use Rattle.std.specs.Prelude.{ℕ, ◌-◌, ◌≡◌, Bool, true, false, cond, List, ◌++◌, ltb, Ok, Err, length, take, replicate}
 use Rattle.ast.specs.Node.{Node}
 use Rattle.trees.specs.Law.{TreeOf}
 use Rattle.standard.specs.Erase.{said}
 use Rattle.standard.specs.Hollow.{any_hollow_lem}
 use Rattle.standard.specs.Text.{standard_text}
 use Rattle.reader.specs.Reads.{Reads}
-use Rattle.reader.specs.declared.Answer as reading
-use Rattle.reader.specs.declared.Answer.TheVariants.{Tree, No, Stopped}
 use Rattle.writing.specs.Written.{room}
 use Rattle.reader.specs.Answer as reader
 use Rattle.writer.specs.Answer.{Numbers, instead, numbers_of, read_of}
@@ -23,13 +21,13 @@ pub record Result : Type 0 where
 
 -- Where the reader accepts, with the answer a, these nodes and the standard text s: "the writer answers 17 where some block has no statement and then 18 where the text
 -- is longer than the lent slice or than 65,536 bytes; both zero that slice"; "a text written is answered by 0 and its length, the slice past it zeroed"
-abbrev pub by_tests : reading.Answer → List ℕ → List ℕ → (hollow long : Bool) → Result
+abbrev pub by_tests : reader.Answer → List ℕ → List ℕ → (hollow long : Bool) → Result
 by_tests a s out₀ hollow long =
     cond hollow (record { answer = Hollow a; out = replicate (length out₀) 0 })
     (cond long (record { answer = Full a; out = replicate (length out₀) 0 })
     (record { answer = Text a (length s); out = s ++ replicate (length out₀ - length s) 0 }))
 
-abbrev pub result : reading.Answer → List Node → List ℕ → List ℕ → Result
+abbrev pub result : reader.Answer → List Node → List ℕ → List ℕ → Result
 result a ns s out₀ = by_tests a s out₀ (any_hollow_lem ns) (ltb (room (length out₀)) (length s))
 
 -- the numbers, by the same two tests: 17, 18, or "0 and its length", each with place 0
@@ -37,13 +35,12 @@ abbrev pub numbers_by : reader.Numbers → ℕ → (hollow long : Bool) → Numb
 numbers_by a m hollow long = cond hollow (record { six = instead 17 a; length = 0 }) (cond long (record { six = instead 18 a; length = 0 }) (record { six = instead 0 a; length = m }))
 
 -- the reader accepts
-abbrev pub accepts : reading.Answer → Bool
-accepts (Tree t n x o) = true
-accepts (No k p) = false
-accepts (Stopped k p t n o) = false
+abbrev pub accepts : reader.Answer → Bool
+accepts (Ok t) = true
+accepts (Err s) = false
 
 -- An accepted source, with slices of these lengths, the reader's answer a, and the fourth slice before.
-pub record Rewrites (src : List ℕ) (tokens text tree : ℕ) (a : reading.Answer) (out₀ : List ℕ) (r : Answer) (out : List ℕ) : Type 0 where
+pub record Rewrites (src : List ℕ) (tokens text tree : ℕ) (a : reader.Answer) (out₀ : List ℕ) (r : Answer) (out : List ℕ) : Type 0 where
   -- its tokens, text and nodes, and a tree of these
   pub read : Read src tokens text tree
   pub of : TreeOf src read.toks read.work.nodes

@@ -7,7 +7,7 @@
 ghost use Rattle.writer.specs.Writes.{Writes};
 ghost use Rattle.writer.specs.Steps.{Accepted, Rewritten};
 
-use writing::Written;
+use writing::Back;
 
 mod hollow;
 
@@ -36,15 +36,15 @@ fn write_tree(
     requires { Accepted src.now text.now tree.now nodes }
     ensures { Rewritten read src.now text.now tree.now nodes out.old result out.new }
 {
-    let n = out.len();
     if hollow::any_hollow(tree, nodes) {
-        areas::zero_bytes(out, 0, n);
+        out.fill(0);
         return Answer::Hollow(read);
     }
-    let s = writer_stmt::put_program(src, text, tree, out, writing::room(n) + 1, nodes);
-    match writing::to_front(out, s.at) {
-        Written::Text(m) => Answer::Text(read, m),
-        Written::Full => Answer::Full(read),
+    let mut back = Back::new(out);
+    writer_stmt::put_program(src, text, tree, &mut back, nodes);
+    match back.to_front() {
+        Some(m) => Answer::Text(read, m),
+        None => Answer::Full(read),
     }
 }
 
@@ -61,12 +61,7 @@ pub fn write_source(
 {
     let read = reader::parse_source(src, tokens, text, tree);
     match read {
-        reader::Answer::Tree {
-            tokens: _,
-            nodes,
-            text: used,
-            openings: _,
-        } => write_tree(read, src, &text[..used], tree, out, nodes),
-        _ => Answer::Unread(read),
+        Ok(found) => write_tree(read, src, &text[..found.text], tree, out, found.nodes),
+        Err(_) => Answer::Unread(read),
     }
 }

@@ -3,6 +3,7 @@ pub mod Fits
 pub mod Shapes
 pub mod Leaves
 pub mod Operators
+pub mod Ranks
 pub mod View
 pub mod Chains
 pub mod Viewed

@@ -20,7 +20,7 @@ use Rattle.writer_expr.specs.Levels.{text_at, text_of}
 use Rattle.writer_expr.specs.Laid.{Laid, Inline, exprs, names, pairs, Stands, Some, SomeMember, kind_at}
 use Rattle.writer_expr.specs.Forms.{leaf_text, Leaf}
 use Rattle.writer_expr.specs.Put.{Put, Puts, PutsMember}
-use Rattle.writer_expr.specs.declared.Spot.{Spot}
+use Rattle.writing.specs.declared.back.Back.{Back}
 use Rattle.writer_expr.proofs.Shapes.{kind_b, positive, kind_is, no_name, inner}
 use Rattle.writer_expr.proofs.Leaves.{name_view}
 
@@ -80,17 +80,17 @@ module _ (src txt tr : List ℕ) where
 
   -- ---- what was put
 
-  pub name_puts : {e at z : ℕ} {out out₁ : List ℕ} → kind_at tr e ≡ kind.Name → Wrote (leaf_text src txt (node_at tr (e - 1))) out at out₁ z → PutsMember src txt tr e out at out₁ (record { at = z; end = e - 1 })
+  pub name_puts : {e : ℕ} {o o₁ : Back} → kind_at tr e ≡ kind.Name → Wrote (leaf_text src txt (node_at tr (e - 1))) o o₁ → PutsMember src txt tr e o o₁ (e - 1)
   name_puts k w i exprs b x s = let h = no_name s in absurd (omega arith)
   name_puts {e} k w i names b x s = let v = name_view src txt tr b e x s in record { wrote = same (sym v.says) w; first = let n = v.alone in omega arith }
   name_puts k w i pairs b x s = let h = pair_kind x s in absurd (omega arith)
 
-  pub pair_puts : {e at : ℕ} {out out₁ : List ℕ} {r : Spot} → kind_at tr e ≡ kind.Pair → ((b : ℕ) (x : Tree (a Pair)) → Stands src txt tr b x e → Put (text_of x) b out at out₁ r) → PutsMember src txt tr e out at out₁ r
+  pub pair_puts : {e : ℕ} {o o₁ : Back} {r : ℕ} → kind_at tr e ≡ kind.Pair → ((b : ℕ) (x : Tree (a Pair)) → Stands src txt tr b x e → Put (text_of x) b o o₁ r) → PutsMember src txt tr e o o₁ r
   pair_puts k p i exprs b x s = let h = no_name s in absurd (omega arith)
   pair_puts k p i names b x s = let h = name_kind x s in absurd (omega arith)
   pair_puts k p i pairs b x s = p b x s
 
-  pub expr_puts : {e at : ℕ} {out out₁ : List ℕ} {r : Spot} → (kind_at tr e ≡ kind.Name → ⊥) → (kind_at tr e ≡ kind.Pair → ⊥) → Puts src txt tr (text_at 0) e out at out₁ r → PutsMember src txt tr e out at out₁ r
+  pub expr_puts : {e : ℕ} {o o₁ : Back} {r : ℕ} → (kind_at tr e ≡ kind.Name → ⊥) → (kind_at tr e ≡ kind.Pair → ⊥) → Puts src txt tr (text_at 0) e o o₁ r → PutsMember src txt tr e o o₁ r
   expr_puts k l p i exprs b x s = p b x s
   expr_puts k l p i names b x s = absurd (k (name_kind x s))
   expr_puts k l p i pairs b x s = absurd (l (pair_kind x s))
@@ -121,8 +121,8 @@ module _ (src txt tr : List ℕ) where
   pub some_key : {b e m : ℕ} {x : Tree (a Pair)} (v : Pairing src txt tr b x e) → m ≡ v.mid → Some src txt tr m
   some_key {b} v h = record { from = b; tree = v.left; stands = key_stands v h }
 
-  pub pair_put : {b e : ℕ} {x : Tree (a Pair)} {out out₁ out₂ out₃ : List ℕ} {at at₁ : ℕ} {s r : Spot} (v : Pairing src txt tr b x e)
-      → Put (text_of v.right) v.mid out at out₁ s → Wrote (spelled_fixed Colon ++ 32 ∷ []) out₁ s.at out₂ at₁ → Put (text_of v.left) b out₂ at₁ out₃ r → Put (text_of x) b out at out₃ r
+  pub pair_put : {b e : ℕ} {x : Tree (a Pair)} {o o₁ o₂ o₃ : Back} {s r : ℕ} (v : Pairing src txt tr b x e)
+      → Put (text_of v.right) v.mid o o₁ s → Wrote (spelled_fixed Colon ++ 32 ∷ []) o₁ o₂ → Put (text_of v.left) b o₂ o₃ r → Put (text_of x) b o o₃ r
   pair_put v p c q = record {
     wrote = same (ap (λ (w : List ℕ). text_of v.left ++ w) (append_assoc (spelled_fixed Colon) (32 ∷ []) (text_of v.right)) ∙ sym v.says) (then (then p.wrote c) q.wrote);
     first = q.first;

@@ -19,7 +19,9 @@ use Rattle.unparse.specs.Trees as tree
 use Rattle.unparse.specs.Levels.{G, U, level_of}
 use Rattle.standard.specs.Text.{text, fit_text, operator}
 use Rattle.standard.specs.Plant.{sign_number, op_number, comparison_number}
-use Rattle.writer_expr.specs.Levels.{rank, text_at, text_of, operator_of, sign_of, rule_of_lem, left_of}
+use Rattle.writer_expr.specs.declared.rules.Rule.{Rule}
+use Rattle.writer_expr.specs.declared.rules.Rule.TheVariants as rule
+use Rattle.writer_expr.specs.Levels.{number, rank, text_at, text_of, operator_of, sign_of, rule_of_lem, left_of}
 
 -- an operator between its operands; the last one of a chain; a sign before its operand
 abbrev pub binary_text : ℕ → Tree (a Expr) → Tree (a Expr) → List ℕ
@@ -151,10 +153,13 @@ rule_small op = go (ltb op 3) (ltb op 7) (ltb op 13) (ltb op 14)
     go false false false true = omega arith
     go false false false false = omega arith
 
-pub left_small : {rule : ℕ} → rule ≤ 5 → left_of rule ≤ 7
-unfolding left_of
-left_small {rule} h = go (eqb rule 3)
-  where
-    go : (c : Bool) → cond c 4 rule ≤ 7
-    go true = omega arith
-    go false = omega arith
+-- a rule is one of eight
+pub number_small : (r : Rule) → number r ≤ 7
+number_small rule.E = omega arith
+number_small rule.O = omega arith
+number_small rule.A = omega arith
+number_small rule.C = omega arith
+number_small rule.S = omega arith
+number_small rule.P = omega arith
+number_small rule.U = omega arith
+number_small rule.F = omega arith

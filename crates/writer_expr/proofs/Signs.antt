@@ -2,7 +2,6 @@
 -- Assumes nothing.
 use mathlib.Core.Path.{◌≡◌, refl, sym, ap, ◌∙◌, subst}
 use mathlib.Core.Logic.{⊎_elim}
-use mathlib.Core.Bool.{false}
 use mathlib.Core.List.{List, [], ◌∷◌, ◌++◌, append_assoc}
 use Prim.Native.Nat.{ℕ, zero, suc, ◌+◌, ◌-◌, ◌≤◌, ◌<◌}
 use native.Mathlib.Omega.{arith}
@@ -15,8 +14,9 @@ use Rattle.writing.proofs.Writes.{then, same}
 use Rattle.writer_expr.specs.Levels.{rank_of, text_at, text_of, sign_of}
 use Rattle.writer_expr.specs.Laid.{Stands, Some, kind_at, word_at}
 use Rattle.writer_expr.specs.Forms.{unary, form_of, rule_at_lem, signs}
+use Rattle.std.specs.Prelude.{None}
 use Rattle.writer_expr.specs.Put.{Put, Turned}
-use Rattle.writer_expr.specs.declared.Spot.{Spot}
+use Rattle.writing.specs.declared.back.Back.{Back}
 use Rattle.writer_expr.proofs.Fits.{fit_in}
 use Rattle.writer_expr.proofs.View.{Signs}
 use Rattle.writer_expr.proofs.Chains.{view_rule}
@@ -86,7 +86,7 @@ module _ (src txt tr : List ℕ) where
   pub some_signed : {b : ℕ} {x : Tree (a Expr)} {j n : ℕ} → Signed src txt tr b x j n → Some src txt tr j
   some_signed {b = b} g = record { from = b; tree = g.tree; stands = g.stands }
 
-  pub turn_unary : {b e : ℕ} {x : Tree (a Expr)} {out out₁ out₂ : List ℕ} {at : ℕ} {s : Spot} {j z : ℕ} → kind_at tr e ≡ kind.Unary → Stands src txt tr b x e → (g : Signed src txt tr b x j (e - j))
-      → Put (text_at 6 g.tree) b out at out₁ s → Wrote (signs tr j (e - j)) out₁ s.at out₂ z
-      → Turned src txt tr (text_of x) b e out at out₂ (record { at = z; end = s.end; least = 0; more = false })
+  pub turn_unary : {b e : ℕ} {x : Tree (a Expr)} {o o₁ o₂ : Back} {s : ℕ} {j : ℕ} → kind_at tr e ≡ kind.Unary → Stands src txt tr b x e → (g : Signed src txt tr b x j (e - j))
+      → Put (text_at 6 g.tree) b o o₁ s → Wrote (signs tr j (e - j)) o₁ o₂
+      → Turned src txt tr (text_of x) b e o o₂ (record { end = s; left = None })
   turn_unary u v g w t = finished (same (sym g.parts ∙ sign_as u v) (then w.wrote t)) w.first

@@ -1,7 +1,7 @@
 -- Tuples and lambdas.
 -- Assumes nothing.
 use mathlib.Core.Path.{◌≡◌, refl, sym, ap, ◌∙◌, subst}
-use mathlib.Core.Bool.{false, cond}
+use mathlib.Core.Bool.{cond}
 use mathlib.Core.List.{List, [], ◌∷◌, ◌++◌, append_assoc, append-nil}
 use Prim.Native.Nat.{ℕ, ◌-◌}
 use native.Mathlib.Omega.{arith}
@@ -21,8 +21,9 @@ use Rattle.writing.proofs.Writes.{then, same}
 use Rattle.writer_expr.specs.Levels.{text_of, text_whole}
 use Rattle.writer_expr.specs.Laid.{Laid, exprs, names, Stands, Some, SomeList, kind_at, word_at}
 use Rattle.writer_expr.specs.Forms.{tuple, form_of}
+use Rattle.std.specs.Prelude.{Some as some, None}
 use Rattle.writer_expr.specs.Put.{Put, Turned, PutsList}
-use Rattle.writer_expr.specs.declared.Spot.{Spot}
+use Rattle.writing.specs.declared.back.Back.{Back}
 use Rattle.writer_expr.proofs.Shapes.{kind_b, positive, kind_is, head_low, inner}
 use Rattle.writer_expr.proofs.View.{inside_text, tuple_text, whole_text, Tuple, Lambdas}
 use Rattle.writer_expr.proofs.Viewed.{view}
@@ -48,7 +49,7 @@ no_tuple (tree.tuple x) h = absurd (h refl)
 no_tuple (tree.lambda x y) h = refl
 
 -- the same text under another name
-pub put_as : {t u : List ℕ} {b : ℕ} {out : List ℕ} {at : ℕ} {out₁ : List ℕ} {r : Spot} → t ≡ u → Put t b out at out₁ r → Put u b out at out₁ r
+pub put_as : {t u : List ℕ} {b : ℕ} {o : Back} {o₁ : Back} {r : ℕ} → t ≡ u → Put t b o o₁ r → Put u b o o₁ r
 put_as e p = record { wrote = same e p.wrote; first = p.first }
 
 module _ (src txt tr : List ℕ) where
@@ -66,8 +67,8 @@ module _ (src txt tr : List ℕ) where
   tuple_none b e f tree.nil s h j = (refl, refl, omega (arith, s.ends))
   tuple_none b e f (tree.full l) s h j = let u = head_low exprs b l in absurd (omega (arith, s.ends, s.few))
 
-  pub turn_empty : {b e f z : ℕ} {x : Tree (a Expr)} {out out₁ : List ℕ} {at : ℕ} → Tuple src txt tr b x e → f ≡ word_at tr e 4 → f ≡ none → Wrote (void_text Void.no_members) out at out₁ z
-      → Turned src txt tr (text_of x) b e out at out₁ (record { at = z; end = e - 1; least = 0; more = false })
+  pub turn_empty : {b e f : ℕ} {x : Tree (a Expr)} {o o₁ : Back} → Tuple src txt tr b x e → f ≡ word_at tr e 4 → f ≡ none → Wrote (void_text Void.no_members) o o₁
+      → Turned src txt tr (text_of x) b e o o₁ (record { end = e - 1; left = None })
   turn_empty {b} {e} {f} v p j w = let q = tuple_none b (e - 1) f v.list v.behind (p ∙ v.head) j in finished (same (sym (v.says ∙ q.0)) w) q.2
 
   -- so it has its parentheses as a whole statement's too, as any other expression has its text
@@ -87,8 +88,8 @@ module _ (src txt tr : List ℕ) where
       let p : e - 1 ≡ f → ⊥ = λ w. omega (arith, s.ends) in
       rw (ne_eqb (e - 1) f p) (sym (append-nil (text_of (tree.more l x))))
 
-  inside_put : {out out₁ out₂ : List ℕ} {at at₁ : ℕ} {r : Spot} (b e f : ℕ) (l : Tree (list Expr)) → Stands src txt tr b l e → f ≡ head_b b (plant l) → (f ≡ none → ⊥)
-      → Wrote (cond (eqb (e - 1) f) (spelled_fixed Comma) []) out at out₁ at₁ → PutsList src txt tr some e f out₁ at₁ out₂ r → Put (whole_text l) b out at out₂ r
+  inside_put : {o o₁ o₂ : Back} {r : ℕ} (b e f : ℕ) (l : Tree (list Expr)) → Stands src txt tr b l e → f ≡ head_b b (plant l) → (f ≡ none → ⊥)
+      → Wrote (cond (eqb (e - 1) f) (spelled_fixed Comma) []) o o₁ → PutsList src txt tr some e f o₁ o₂ r → Put (whole_text l) b o o₂ r
   unfolding Laid size_b head_b plant
   inside_put b e f tree.nil s h j c p = absurd (j h)
   inside_put b e f (tree.full l) s h j c p =
@@ -96,10 +97,10 @@ module _ (src txt tr : List ℕ) where
       let q = p Expr exprs b l t h in
       record { wrote = same (sym (inside_is b e f l t h)) (then c q.wrote); first = q.first }
 
-  pub members_inside : {b e f w : ℕ} {x : Tree (a Expr)} {out out₁ out₂ : List ℕ} {at at₁ : ℕ} {r : Spot} → Tuple src txt tr b x e → f ≡ word_at tr e 4 → (word_at tr e 4 ≡ none → ⊥) → w ≡ f
-      → Wrote (cond (eqb (e - 1 - 1) w) (spelled_fixed Comma) []) out at out₁ at₁ → PutsList src txt tr some (e - 1) f out₁ at₁ out₂ r → Put (text_whole x) b out at out₂ r
-  members_inside {b} {e} {f} v p j i c q =
-      let g = inside_put b (e - 1) f v.list v.behind (p ∙ v.head) (λ m. j (sym p ∙ m)) (rw i at c) q in
+  pub members_inside : {b e f : ℕ} {x : Tree (a Expr)} {o o₁ o₂ : Back} {r : ℕ} → Tuple src txt tr b x e → f ≡ word_at tr e 4 → (word_at tr e 4 ≡ none → ⊥)
+      → Wrote (cond (eqb (e - 1 - 1) f) (spelled_fixed Comma) []) o o₁ → PutsList src txt tr some (e - 1) f o₁ o₂ r → Put (text_whole x) b o o₂ r
+  members_inside {b} {e} {f} v p j c q =
+      let g = inside_put b (e - 1) f v.list v.behind (p ∙ v.head) (λ m. j (sym p ∙ m)) c q in
       put_as (sym v.whole) g
 
   -- in parentheses
@@ -108,9 +109,9 @@ module _ (src txt tr : List ℕ) where
   tuple_some b tree.nil h j = absurd (j h)
   tuple_some b (tree.full l) h j = refl
 
-  pub turn_tuple : {b e : ℕ} {x : Tree (a Expr)} {out out₁ out₂ out₃ : List ℕ} {at at₁ : ℕ} {s : Spot} {z : ℕ} → Tuple src txt tr b x e → (word_at tr e 4 ≡ none → ⊥)
-      → Wrote (spelled_fixed RParen) out at out₁ at₁ → Put (text_whole x) b out₁ at₁ out₂ s → Wrote (spelled_fixed LParen) out₂ s.at out₃ z
-      → Turned src txt tr (text_of x) b e out at out₃ (record { at = z; end = s.end; least = 0; more = false })
+  pub turn_tuple : {b e : ℕ} {x : Tree (a Expr)} {o o₁ o₂ o₃ : Back} {s : ℕ} → Tuple src txt tr b x e → (word_at tr e 4 ≡ none → ⊥)
+      → Wrote (spelled_fixed RParen) o o₁ → Put (text_whole x) b o₁ o₂ s → Wrote (spelled_fixed LParen) o₂ o₃
+      → Turned src txt tr (text_of x) b e o o₃ (record { end = s; left = None })
   turn_tuple {b} {x = x} v j c w u =
       let t : text_of x ≡ within LParen (text_whole x) RParen = v.says ∙ tuple_some b v.list v.head j ∙ ap (λ (y : List ℕ). within LParen y RParen) (sym v.whole) in
       finished (same (sym t) (then (then c w.wrote) u)) w.first
@@ -134,10 +135,10 @@ module _ (src txt tr : List ℕ) where
       let p : f ≡ none → ⊥ = λ q. omega (arith, s.ends, s.few) in
       rw (ne_eqb f none p)
 
-  pub turn_lambda : {b e f : ℕ} {x : Tree (a Expr)} {out out₁ out₂ out₃ out₄ out₅ : List ℕ} {at at₁ at₂ : ℕ} {s r : Spot} {z : ℕ} (v : Lambdas src txt tr b x e) → f ≡ word_at tr e 4
-      → Put (text_of v.right) v.mid out at out₁ s → Wrote (spelled_fixed Colon ++ 32 ∷ []) out₁ s.at out₂ at₁ → Put (text_of v.list) b out₂ at₁ out₃ r
-      → Wrote (cond (eqb f none) [] (32 ∷ [])) out₃ r.at out₄ at₂ → Wrote (spelled_fixed Lambda) out₄ at₂ out₅ z
-      → Turned src txt tr (text_of x) b e out at out₅ (record { at = z; end = r.end; least = 0; more = false })
+  pub turn_lambda : {b e f : ℕ} {x : Tree (a Expr)} {o o₁ o₂ o₃ o₄ o₅ : Back} {s r : ℕ} (v : Lambdas src txt tr b x e) → f ≡ word_at tr e 4
+      → Put (text_of v.right) v.mid o o₁ s → Wrote (spelled_fixed Colon ++ 32 ∷ []) o₁ o₂ → Put (text_of v.list) b o₂ o₃ r
+      → Wrote (cond (eqb f none) [] (32 ∷ [])) o₃ o₄ → Wrote (spelled_fixed Lambda) o₄ o₅
+      → Turned src txt tr (text_of x) b e o o₅ (record { end = r; left = None })
   turn_lambda {b} {e} {f} v h p c q g u =
       let w : List ℕ = text_of v.list ++ ((spelled_fixed Colon ++ 32 ∷ []) ++ text_of v.right) in
       let t = ap (λ (y : List ℕ). spelled_fixed Lambda ++ y) (gap_is b v.mid f v.list v.ahead (h ∙ v.head) w ∙ ap (λ (y : List ℕ). led v.list (text_of v.list ++ y)) (append_assoc (spelled_fixed Colon) (32 ∷ []) (text_of v.right))) in

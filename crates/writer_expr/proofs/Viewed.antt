@@ -1,10 +1,13 @@
 -- The words of each expression say what it is.
 -- Assumes nothing.
 use mathlib.Core.Path.{◌≡◌, refl, sym, ap, ◌∙◌, subst}
+use mathlib.Core.Bool.{Bool, true, false, cond}
 use mathlib.Core.List.{List, [], ◌∷◌}
-use Prim.Native.Nat.{ℕ, ◌+◌}
+use Prim.Native.Nat.{ℕ, ◌+◌, ◌≤◌}
 use native.Mathlib.Omega.{arith}
+use Rattle.std.proofs.lemmas.Bool.{eqb-false}
 use borrow.Author.Tests.{ne_eqb}
+use lib.Dec.{eqb}
 use Rattle.source.proofs.Ranges.{NotIn}
 use Rattle.ast.specs.Kind as kind
 use Rattle.unparse.specs.Trees.{Item, Expr, Name, Pair, a, several, Literal, Bracket, Void, Word, Tree}
@@ -14,7 +17,7 @@ use Rattle.standard.specs.Bare.{Bare, size_b, head_b, fields_b}
 use Rattle.standard.specs.Plant.{plant, spelling}
 use Rattle.writer_expr.specs.Levels.{text_of}
 use Rattle.writer_expr.specs.Laid.{Laid, Stands, Inline, exprs, pairs, kind_at, word_at}
-use Rattle.writer_expr.specs.Forms.{Form, leaf, form_of, Linked, opens, closes}
+use Rattle.writer_expr.specs.Forms.{Form, enclosed, leaf, form_of, Linked, opens, closes}
 use Rattle.writer_expr.proofs.Shapes.{rooted, field_is, kind_b, kind_is, inner, grown, grown_plant, grown_text}
 use Rattle.writer_expr.proofs.Leaves.{literal_view, variable_view}
 use Rattle.writer_expr.proofs.Operators.{sign_text_lem, op_text, compare_text, sign_text}
@@ -161,3 +164,17 @@ pub form_leaf : (k : ℕ) → NotIn (kind.TreeSet ∷ kind.Set ∷ kind.Dict ∷
 unfolding form_of
 form_leaf k n =
     simp (ne_eqb k kind.TreeSet n.1, ne_eqb k kind.Set n.0.1, ne_eqb k kind.Dict n.0.0.1, ne_eqb k kind.List n.0.0.0.1, ne_eqb k kind.Tuple n.0.0.0.0.1, ne_eqb k kind.Lambda n.0.0.0.0.0.1, ne_eqb k kind.Index n.0.0.0.0.0.0.1, ne_eqb k kind.Attribute n.0.0.0.0.0.0.0.1, ne_eqb k kind.Call n.0.0.0.0.0.0.0.0.1, ne_eqb k kind.Unary n.0.0.0.0.0.0.0.0.0.1, ne_eqb k kind.Binary n.0.0.0.0.0.0.0.0.0.0.1)
+
+-- the kinds from List to TreeSet but a tuple's
+pub form_enclosed : (k : ℕ) → 28 ≤ k → k ≤ 32 → (k ≡ 30 → ⊥) → form_of k ≡ enclosed k
+unfolding form_of
+form_enclosed k l h n =
+    simp (ne_eqb k kind.Binary (λ e. omega arith), ne_eqb k kind.Unary (λ e. omega arith), ne_eqb k kind.Call (λ e. omega arith), ne_eqb k kind.Attribute (λ e. omega arith), ne_eqb k kind.Index (λ e. omega arith), ne_eqb k kind.Lambda (λ e. omega arith), ne_eqb k kind.Tuple n)
+    (go (eqb k kind.List) (eqb k kind.Dict) (eqb k kind.Set) (eqb k kind.TreeSet) refl refl refl refl)
+  where
+    go : (p q r s : Bool) → eqb k kind.List ≡ p → eqb k kind.Dict ≡ q → eqb k kind.Set ≡ r → eqb k kind.TreeSet ≡ s → cond p (enclosed k) (cond q (enclosed k) (cond r (enclosed k) (cond s (enclosed k) (leaf k)))) ≡ enclosed k
+    go true q r s u v w y = refl
+    go false true r s u v w y = refl
+    go false false true s u v w y = refl
+    go false false false true u v w y = refl
+    go false false false false u v w y = absurd (let u₁ = eqb-false k 28 u in let v₁ = eqb-false k 29 v in let w₁ = eqb-false k 31 w in let y₁ = eqb-false k 32 y in omega arith)

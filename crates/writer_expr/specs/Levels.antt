@@ -1,4 +1,4 @@
--- The rules of expressions by number, as the code has them: 0 an E, 1 O, 2 A, 3 C, 4 S, 5 P, 6 a U, 7 F (01, Grammar). A text that fits a rule fits those
+-- The rules of expressions by number: 0 an E, 1 O, 2 A, 3 C, 4 S, 5 P, 6 a U, 7 F (01, Grammar). A text that fits a rule fits those
 -- before it. Contracts of inner functions alone cite this; what the writer promises stands in `writer`.
 -- Assumes nothing.
 use Rattle.std.specs.Prelude.{ℕ, cond, List, [], ◌∷◌, eqb, ltb, get_or}
@@ -8,6 +8,19 @@ use Rattle.unparse.specs.Trees.{Sort, Tree, a, Expr}
 use Rattle.unparse.specs.Trees as tree
 use Rattle.unparse.specs.Levels.{Level, T, X, E, O, A, C, S, P, U, G, F, level_of}
 use Rattle.standard.specs.Text.{text}
+use Rattle.writer_expr.specs.declared.rules.Rule.{Rule}
+use Rattle.writer_expr.specs.declared.rules.Rule.TheVariants as rule
+
+-- the number of a rule, as the code has it
+abbrev pub number : Rule → ℕ
+number rule.E = 0
+number rule.O = 1
+number rule.A = 2
+number rule.C = 3
+number rule.S = 4
+number rule.P = 5
+number rule.U = 6
+number rule.F = 7
 
 abbrev pub level_from : ℕ → Level
 level_from n = get_or (X ∷ O ∷ A ∷ C ∷ S ∷ P ∷ G ∷ []) n F

@@ -5,28 +5,22 @@ ghost use Rattle.writing.specs.Wrote.{Wrote};
 ghost use Rattle.writer_expr.specs.Forms.{leaf_text, Leaf};
 
 use crate::words::{kind_at, word_at};
+use writing::Back;
 
 // Node `end - 1`.
-pub fn put_leaf(
-    src: &[u8],
-    text: &[u8],
-    tree: &[u32],
-    out: &mut [u8],
-    at: usize,
-    end: usize,
-) -> usize
-    requires end_nonzero { (0 < end) × (8 * end + 8 ≤ length tree.now) × (at ≤ length out.old + 1) }
+pub fn put_leaf(src: &[u8], text: &[u8], tree: &[u32], back: &mut Back, end: usize)
+    requires end_nonzero { (0 < end) × (8 * end + 8 ≤ length tree.now) }
     requires leaf { Leaf src.now text.now (node_at tree.now (end - 1)) }
-    ensures { Wrote (leaf_text src.now text.now (node_at tree.now (end - 1))) out.old at out.new result }
+    ensures { Wrote (leaf_text src.now text.now (node_at tree.now (end - 1))) back.old back.new }
 {
     let p = word_at(tree, end, 4);
     let q = word_at(tree, end, 5);
     match kind_at(tree, end) {
-        ast::NONE => writing::put_fixed(out, at, token::NONE),
-        ast::BOOL => writing::put_bool(out, at, p),
-        ast::INT => writing::put_int(out, at, p, q),
-        ast::STRING => writing::put_string(text, out, at, p, q),
-        ast::FLOAT => writing::put_part(src, out, at, word_at(tree, end, 6), word_at(tree, end, 7)),
-        _ => writing::put_part(src, out, at, p, q),
+        ast::NONE => back.put_fixed(token::NONE),
+        ast::BOOL => back.put_bool(p),
+        ast::INT => back.put_int(p, q),
+        ast::STRING => back.put_string(text, p, q),
+        ast::FLOAT => back.put_part(src, word_at(tree, end, 6), word_at(tree, end, 7)),
+        _ => back.put_part(src, p, q),
     }
 }

@@ -12,6 +12,7 @@ ghost use Rattle.writer_expr.specs.Laid.{kind_at};
 ghost use Rattle.writer_expr.specs.Forms.{opens, closes, signs};
 
 use crate::words::{kind_at, word_at};
+use writing::Back;
 
 // The code of a binary operator's token.
 pub fn operator(op: u32) -> u32
@@ -51,84 +52,59 @@ pub fn operand(tree: &[u32], end: usize) -> usize
     requires { (0 < end) × (8 * end + 8 ≤ length tree.now) }
     ensures { (result ≤ end) × (0 < result) × ((k : ℕ) → result < k → k ≤ end → kind_at tree.now k ≡ kind.Unary) }
 {
-    let mut j = end;
-    while 1 < j {
-        if kind_at(tree, j) != ast::UNARY {
-            return j;
+    for node in (1..end).rev() {
+        if kind_at(tree, node + 1) != ast::UNARY {
+            return node + 1;
         }
-        j -= 1;
     }
-    j
+    1
 }
 
 // The signs of the nodes from j up to `end - 1`, the last of them first.
-pub fn put_signs(tree: &[u32], out: &mut [u8], at: usize, j: usize, end: usize) -> usize
-    requires j_le_end { (j ≤ end) × (8 * end + 8 ≤ length tree.now) }
-    requires at_in_bounds { at ≤ length out.old + 1 }
-    ensures { Wrote (signs tree.now j (end - j)) out.old at out.new result }
+pub fn put_signs(tree: &[u32], back: &mut Back, j: usize, end: usize)
+    requires { (j ≤ end) × (8 * end + 8 ≤ length tree.now) }
+    ensures { Wrote (signs tree.now j (end - j)) back.old back.new }
 {
-    let mut next = at;
-    let mut k = j;
-    while k < end {
-        k += 1;
-        next = writing::put_then_space(out, next, sign(word_at(tree, k, 4)));
+    for k in j..end {
+        back.put_then_space(sign(word_at(tree, k + 1, 4)));
     }
-    next
 }
 
 // The brackets of a List, Dict, Set or TreeSet.
-pub fn put_open(out: &mut [u8], at: usize, kind: u32) -> usize
-    requires { at ≤ length out.old + 1 }
-    ensures { Wrote (opens kind) out.old at out.new result }
+#[tactic(auto, unfolding(crate::specs::Forms::opens, crate::specs::Forms::closes, rendered::specs::Spelled::spelled_fixed, raw_token::specs::Table::table))]
+pub fn brackets(kind: u32) -> (&'static [u8], &'static [u8])
+    ensures open { result.0.now ≡ opens kind }
+    ensures close { result.1.now ≡ closes kind }
 {
     match kind {
-        ast::LIST => writing::put_fixed(out, at, token::LBRACKET),
-        ast::TREE_SET => {
-            let next = writing::put_fixed(out, at, token::LBRACE);
-            writing::put(out, next, b't')
-        }
-        _ => writing::put_fixed(out, at, token::LBRACE),
+        ast::LIST => (b"[", b"]"),
+        ast::TREE_SET => (b"t{", b"}"),
+        _ => (b"{", b"}"),
     }
-}
-
-pub fn put_close(out: &mut [u8], at: usize, kind: u32) -> usize
-    requires { at ≤ length out.old + 1 }
-    ensures { Wrote (closes kind) out.old at out.new result }
-{
-    if kind == ast::LIST {
-        return writing::put_fixed(out, at, token::RBRACKET);
-    }
-    writing::put_fixed(out, at, token::RBRACE)
 }
 
 // The empty tuple.
-pub fn put_unit(out: &mut [u8], at: usize) -> usize
-    requires { at ≤ length out.old + 1 }
-    ensures { Wrote (void_text tree.no_members) out.old at out.new result }
+#[tactic(auto, unfolding(rendered::specs::Spelled::spelled_fixed, raw_token::specs::Table::table))]
+pub fn put_unit(back: &mut Back)
+    ensures { Wrote (void_text tree.no_members) back.old back.new }
 {
-    let last = writing::put_fixed(out, at, token::RPAREN);
-    let next = writing::put_fixed(out, last, token::RPAREN);
-    writing::put_fixed(out, next, token::LPAREN)
+    back.put_bytes(b"())");
 }
 
 // The comma of a tuple of one, whose last member is its first.
-pub fn put_comma(out: &mut [u8], at: usize, first: usize, last: usize) -> usize
-    requires { at ≤ length out.old + 1 }
-    ensures { Wrote (cond (eqb last first) (spelled_fixed code.Comma) []) out.old at out.new result }
+pub fn put_comma(back: &mut Back, first: usize, last: usize)
+    ensures { Wrote (cond (eqb last first) (spelled_fixed code.Comma) []) back.old back.new }
 {
     if last == first {
-        return writing::put_fixed(out, at, token::COMMA);
+        back.put_fixed(token::COMMA);
     }
-    at
 }
 
 // The space between `lambda` and its names, if it has any.
-pub fn put_gap(out: &mut [u8], at: usize, first: u32) -> usize
-    requires { at ≤ length out.old + 1 }
-    ensures { Wrote (cond (eqb first none) [] (32 ∷ [])) out.old at out.new result }
+pub fn put_gap(back: &mut Back, first: u32)
+    ensures { Wrote (cond (eqb first none) [] (32 ∷ [])) back.old back.new }
 {
-    if first == ast::NONE_NODE {
-        return at;
+    if first != ast::NONE_NODE {
+        back.put(b' ');
     }
-    writing::put(out, at, b' ')
 }

@@ -1,47 +1,88 @@
-// The rules that texts fit, by their numbers: 0 an E, 1 O, 2 A, 3 C, 4 S, 5 P, 6 a U, 7 F.
-ghost use Rattle.std.specs.Prelude.{◌≡◌, true, false, List, ℕ, ◌+◌, ◌*◌, ◌≤◌, ◌<◌, length};
+// The rules that texts fit (01, Grammar).
+ghost use Rattle.std.specs.Prelude.{◌≡◌, min, true, false, List, ℕ, ◌+◌, ◌*◌, ◌≤◌, ◌<◌, length};
 ghost use Rattle.unparse.specs.Trees.{Tree, a, Expr};
-ghost use Rattle.writer_expr.specs.Levels.{rank_of, rule_of_lem, left_of};
+ghost use Rattle.writer_expr.specs.Levels.{number, rank_of, rule_of_lem, left_of};
 ghost use Rattle.writer_expr.specs.Laid.{Stands};
 ghost use Rattle.writer_expr.specs.Forms.{Linked, rule_at_lem};
 
 use crate::words::{kind_at, word_at};
 
-// The rule of an operator.
-pub fn rule_of(op: u32) -> u32
-    ensures { result ≡ rule_of_lem op }
-{
-    if op < 3 {
-        return 4;
-    }
-    if op < 7 {
-        return 5;
-    }
-    if op < 13 {
-        return 3;
-    }
-    if op < 14 {
-        return 2;
-    }
-    1
+// The loosest first: a text that fits a rule fits those before it.
+#[derive(Clone, Copy, PartialEq, Eq, PartialOrd, Ord)]
+pub enum Rule {
+    E,
+    O,
+    A,
+    C,
+    S,
+    P,
+    U,
+    F,
 }
 
-// The rule of its left operand.
-pub fn left_of(rule: u32) -> u32
-    ensures { result ≡ left_of rule }
-{
-    if rule == 3 { 4 } else { rule }
-}
+impl Rule {
+    // The rule of an operator.
+    #[tactic(auto, unfolding(crate::specs::Levels::rule_of_lem))]
+    pub fn of(op: u32) -> Rule
+        ensures { number result ≡ rule_of_lem op }
+    {
+        match op {
+            0..=2 => Rule::S,
+            3..=6 => Rule::P,
+            7..=12 => Rule::C,
+            13 => Rule::A,
+            _ => Rule::O,
+        }
+    }
 
-// The rule of a node that is no chain's.
-fn rule_at(kind: u32, op: u32) -> u32
-    ensures { result ≡ rule_at_lem kind op }
-{
-    match kind {
-        ast::BINARY => rule_of(op),
-        ast::UNARY => 6,
-        ast::LAMBDA => 0,
-        _ => 7,
+    // The rule of its left operand.
+    #[tactic(auto, unfolding(crate::specs::Levels::left_of))]
+    pub fn left(self) -> Rule
+        ensures { number result ≡ left_of (number self) }
+    {
+        match self {
+            Rule::C => Rule::S,
+            _ => self,
+        }
+    }
+
+    // The next one, which its right operand must fit.
+    pub fn next(self) -> Rule
+        ensures { number result ≡ min (number self + 1) 7 }
+    {
+        match self {
+            Rule::E => Rule::O,
+            Rule::O => Rule::A,
+            Rule::A => Rule::C,
+            Rule::C => Rule::S,
+            Rule::S => Rule::P,
+            Rule::P => Rule::U,
+            Rule::U | Rule::F => Rule::F,
+        }
+    }
+
+    // The rule of a node that is no chain's.
+    #[tactic(auto, unfolding(crate::specs::Forms::rule_at_lem))]
+    fn of_kind(kind: u32, op: u32) -> Rule
+        ensures { number result ≡ rule_at_lem kind op }
+    {
+        match kind {
+            ast::BINARY => Rule::of(op),
+            ast::UNARY => Rule::U,
+            ast::LAMBDA => Rule::E,
+            _ => Rule::F,
+        }
+    }
+
+    // The rule that the text of node `end - 1` fits.
+    pub fn of_node(tree: &[u32], end: usize) -> Rule
+        requires { (0 < end) × (8 * end + 8 ≤ length tree.now) }
+        ensures { (src txt : List ℕ) (b : ℕ) (x : Tree (a Expr)) → Stands src txt tree.now b x end → rank_of x ≡ number result }
+    {
+        if is_link(tree, end) {
+            return Rule::C;
+        }
+        Rule::of_kind(kind_at(tree, end), word_at(tree, end, 4))
     }
 }
 
@@ -63,23 +104,9 @@ pub fn is_link(tree: &[u32], end: usize) -> bool
         return false;
     }
     let compare = word_at(tree, end - 1, 4);
-    if compare < 7 {
-        return false;
-    }
-    if compare > 12 {
+    if !matches!(compare, 7..=12) {
         return false;
     }
     let middle = word_at(tree, end - 1, 5);
     middle < word_at(tree, end, 5)
-}
-
-// The rule that the text of node `end - 1` fits.
-pub fn rule(tree: &[u32], end: usize) -> u32
-    requires { (0 < end) × (8 * end + 8 ≤ length tree.now) }
-    ensures { (src txt : List ℕ) (b : ℕ) (x : Tree (a Expr)) → Stands src txt tree.now b x end → rank_of x ≡ result }
-{
-    if is_link(tree, end) {
-        return 3;
-    }
-    rule_at(kind_at(tree, end), word_at(tree, end, 4))
 }

@@ -16,9 +16,3 @@ pub fn word_at(tree: &[u32], end: usize, j: usize) -> u32
 {
     tree[8 * (end - 1) + 8 + j]
 }
-
-pub fn wide(w: u32) -> usize
-    ensures { result ≡ w }
-{
-    w as usize
-}

@@ -1,6 +1,10 @@
 -- Lines with lists below them, from what was put of these.
 -- Assumes nothing.
-use mathlib.Core.Path.{◌≡◌, refl, sym, ap, ◌∙◌, subst}
+use Rattle.std.specs.Prelude.{Option, Some as some, None, MatchOption, Bool, true, false, cond}
+use lib.Dec.{eqb}
+use Rattle.std.proofs.lemmas.Bool.{eqb-false}
+use borrow.Author.Tests.{eqb-true}
+use mathlib.Core.Path.{ap, refl, subst, sym, ◌∙◌, ◌≡◌}
 use mathlib.Core.List.{List, [], ◌++◌, append_assoc}
 use Prim.Native.Nat.{ℕ, suc, ◌+◌, ◌-◌, ◌<◌}
 use native.Mathlib.Omega.{arith}
@@ -16,14 +20,27 @@ use Rattle.standard.specs.Plant.{plant}
 use Rattle.writing.proofs.Writes.{nothing, then, same}
 use Rattle.writer_expr.specs.Laid.{Stands, kind_at, word_at}
 use Rattle.writer_expr.specs.Put.{Put}
-use Rattle.writer_expr.specs.declared.Spot.{Spot}
+use Rattle.writing.specs.declared.back.Back.{Back}
 use Rattle.writer_stmt.specs.Words.{form_of, Says, SomeWords}
 use Rattle.writer_stmt.specs.Lines.{stmt, elif, else, block_word_lem, SomeLine, SomeLines, SomeElse, PutsElse, PutsLine}
 use Rattle.writer_stmt.proofs.View.{Simple, Opened, Branch}
 
 -- the word of a kind that the code has read
-pub block_at : {j k n : ℕ} → k ≡ n → j ≡ block_word_lem k → j ≡ 0 → block_word_lem n ≡ 0
-block_at p q h = ap block_word_lem (sym p) ∙ sym q ∙ h
+abbrev pub word_of : ℕ → Option ℕ
+word_of w = cond (eqb w 0) None (some w)
+
+word_is : (w : ℕ) {o : Option ℕ} → o ≡ word_of w → MatchOption o (w ≡ 0) (λ j. (j ≡ w) × (w ≡ 0 → ⊥))
+word_is w e = subst (λ (o : Option ℕ). MatchOption o (w ≡ 0) (λ j. (j ≡ w) × (w ≡ 0 → ⊥))) (sym e) (go (eqb w 0) refl)
+  where
+    go : (p : Bool) → eqb w 0 ≡ p → MatchOption (cond p None (some w)) (w ≡ 0) (λ j. (j ≡ w) × (w ≡ 0 → ⊥))
+    go true z = eqb-true w 0 z
+    go false z = (refl, eqb-false w 0 z)
+
+pub block_none : {k n : ℕ} {o : Option ℕ} → k ≡ n → o ≡ word_of (block_word_lem k) → o ≡ None → block_word_lem n ≡ 0
+block_none {k} p q h = ap block_word_lem (sym p) ∙ (rw h at (word_is (block_word_lem k) q))
+
+pub block_at : {j k n : ℕ} {o : Option ℕ} → k ≡ n → o ≡ word_of (block_word_lem k) → o ≡ some j → (j ≡ block_word_lem k) × (block_word_lem n ≡ 0 → ⊥)
+block_at {k = k} p q h = let w = rw h at (word_is (block_word_lem k) q) in (w.0, λ z. w.1 (ap block_word_lem p ∙ z))
 
 module _ {d : ℕ} {src txt tr : List ℕ} {b : ℕ} {t : List ℕ} {e : ℕ} where
   pub some_simple : Simple d src txt tr b t e → SomeWords src txt tr (e - 1) e
@@ -43,8 +60,8 @@ module _ {d : ℕ} {src txt tr : List ℕ} {b : ℕ} {t : List ℕ} {e : ℕ} wh
   pub some_opened : {m : ℕ} (v : Opened d src txt tr b t e) → m ≡ v.mid → SomeWords src txt tr m e
   some_opened v h = record { from = b; text = v.words; says = opened_says v h }
 
-  pub opened_put : {out out₁ out₂ : List ℕ} {at : ℕ} {s r : Spot} (v : Opened d src txt tr b t e) → Put (text (d + 1) X v.body) v.mid out at out₁ s → Put (line d (v.words ++ spelled_fixed Colon)) b out₁ s.at out₂ r
-      → Put t b out at out₂ r
+  pub opened_put : {o o₁ o₂ : Back} {s r : ℕ} (v : Opened d src txt tr b t e) → Put (text (d + 1) X v.body) v.mid o o₁ s → Put (line d (v.words ++ spelled_fixed Colon)) b o₁ o₂ r
+      → Put t b o o₂ r
   opened_put v p q =
       let n : suc d ≡ d + 1 = omega arith in
       record { wrote = same (sym (v.text ∙ ap (λ (m : ℕ). opening d v.words (text m X v.body)) n)) (then p.wrote q.wrote); first = q.first }
@@ -72,8 +89,8 @@ module _ {d : ℕ} {src txt tr : List ℕ} {b : ℕ} {t : List ℕ} {e : ℕ} wh
   pub some_branch : {m : ℕ} (v : Branch d src txt tr b t e) → m ≡ v.mid → SomeWords src txt tr m e
   some_branch v h = record { from = b; text = v.words; says = branch_says v h }
 
-  pub branch_put : {out out₁ out₂ out₃ out₄ : List ℕ} {at : ℕ} {s u v r : Spot} (w : Branch d src txt tr b t e) → Put (text d X w.last) w.mid₂ out at out₁ s → Put (text d X w.elifs) w.mid₁ out₁ s.at out₂ u
-      → Put (text (d + 1) X w.body) w.mid out₂ u.at out₃ v → Put (line d (w.words ++ spelled_fixed Colon)) b out₃ v.at out₄ r → Put t b out at out₄ r
+  pub branch_put : {o o₁ o₂ o₃ o₄ : Back} {s u v r : ℕ} (w : Branch d src txt tr b t e) → Put (text d X w.last) w.mid₂ o o₁ s → Put (text d X w.elifs) w.mid₁ o₁ o₂ u
+      → Put (text (d + 1) X w.body) w.mid o₂ o₃ v → Put (line d (w.words ++ spelled_fixed Colon)) b o₃ o₄ r → Put t b o o₄ r
   branch_put w p q o k =
       let n : suc d ≡ d + 1 = omega arith in
       let rest : List ℕ = text d X w.elifs ++ text d X w.last in
@@ -96,8 +113,8 @@ module _ (src txt tr : List ℕ) where
   else_none d b e f tree.without s h j = (refl, omega (arith, s.ends))
   else_none d b e f (tree.otherwise y) s h j = absurd (omega (arith, s.ends, s.few))
 
-  pub no_else : (d : ℕ) {e f at : ℕ} {out : List ℕ} → f ≡ none → PutsElse src txt tr d e f out at out (record { at = at; end = e })
-  no_else d {e} {f} {at} {out} j b x s h = let q = else_none d b e f x s h j in record { wrote = same (sym q.0) (nothing out at); first = q.1 }
+  pub no_else : (d : ℕ) {e f : ℕ} {o : Back} → f ≡ none → PutsElse src txt tr d e f o o e
+  no_else d {e} {f} {o} j b x s h = let q = else_none d b e f x s h j in record { wrote = same (sym q.0) (nothing o); first = q.1 }
 
-  pub else_put : (d : ℕ) {e f at : ℕ} {out out₁ : List ℕ} {r : Spot} → (f ≡ none → ⊥) → PutsLine src txt tr d e out at out₁ r → PutsElse src txt tr d e f out at out₁ r
+  pub else_put : (d : ℕ) {e f : ℕ} {o o₁ : Back} {r : ℕ} → (f ≡ none → ⊥) → PutsLine src txt tr d e o o₁ r → PutsElse src txt tr d e f o o₁ r
   else_put d {e = e} {f = f} j p b x s h = p other else b x s (else_there b e f x s h j)

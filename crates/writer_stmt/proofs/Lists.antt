@@ -15,18 +15,18 @@ use Rattle.writing.specs.Wrote.{Wrote}
 use Rattle.writing.proofs.Writes.{nothing, then, same}
 use Rattle.writer_expr.specs.Laid.{Laid, Stands}
 use Rattle.writer_expr.specs.Put.{Put}
-use Rattle.writer_expr.specs.declared.Spot.{Spot}
+use Rattle.writing.specs.declared.back.Back.{Back}
 use Rattle.writer_expr.proofs.Shapes.{inner}
 use Rattle.writer_stmt.specs.Lines.{Line, stmt, elif, method, SomeLine, PutsLine, PutsLines}
 
 -- Of the text t of a list, which begins with node b and whose first member has the number f, the end was put: what is left of it is the text of members.
-pub record LeftOf (d : ℕ) (i : Item) (src txt tr t : List ℕ) (b f : ℕ) (out : List ℕ) (at : ℕ) (out' : List ℕ) (at' e : ℕ) : Type 0 where
+pub record LeftOf (d : ℕ) (i : Item) (src txt tr t : List ℕ) (b f : ℕ) (o n : Back) (e : ℕ) : Type 0 where
   pub tree : Tree (some i)
   pub done : List ℕ
   pub parts : t ≡ text d X tree ++ done
   pub stands : Stands src txt tr b tree e
   pub head : f ≡ head_b b (plant tree)
-  pub wrote : Wrote done out at out' at'
+  pub wrote : Wrote done o n
 
 -- nothing parts members
 parted : (d : ℕ) {i : Item} → Line (a i) → (l : Tree (some i)) (x : Tree (a i)) → text d X (tree.more l x) ≡ text d X l ++ text d X x
@@ -67,14 +67,14 @@ module _ (d : ℕ) (src txt tr : List ℕ) where
   pub some-line : {i : Item} → Line (a i) → {b e : ℕ} {l : Tree (some i)} → Stands src txt tr b l e → SomeLine src txt tr e
   some-line n {b} {e} {l} s = last_line n b e l s
 
-  module _ {out out₁ : List ℕ} {at : ℕ} {r : Spot} (e f : ℕ) (p : PutsLine src txt tr d e out at out₁ r) {i : Item} (n : Line (a i)) where
+  module _ {o o₁ : Back} {r : ℕ} (e f : ℕ) (p : PutsLine src txt tr d e o o₁ r) {i : Item} (n : Line (a i)) where
     -- it is the first; it is not
-    last_ends : (b : ℕ) (l : Tree (some i)) → Stands src txt tr b l e → f ≡ head_b b (plant l) → e - 1 ≡ f → Put (text d X l) b out at out₁ r
+    last_ends : (b : ℕ) (l : Tree (some i)) → Stands src txt tr b l e → f ≡ head_b b (plant l) → e - 1 ≡ f → Put (text d X l) b o o₁ r
     unfolding Laid size_b head_b plant text
     last_ends b (tree.one x) s h j = let q = positive n x in p (a i) n b x (inner src txt tr s x s.laid s.ends (omega arith)) (omega (arith, s.ends))
     last_ends b (tree.more l x) s h j = let u = head_low n b l in let q = positive n x in absurd (omega (arith, s.ends))
 
-    last_goes : (b : ℕ) (l : Tree (some i)) → Stands src txt tr b l e → f ≡ head_b b (plant l) → (e - 1 ≡ f → ⊥) → LeftOf d i src txt tr (text d X l) b f out at out₁ r.at r.end
+    last_goes : (b : ℕ) (l : Tree (some i)) → Stands src txt tr b l e → f ≡ head_b b (plant l) → (e - 1 ≡ f → ⊥) → LeftOf d i src txt tr (text d X l) b f o o₁ r
     unfolding Laid size_b head_b plant
     last_goes b (tree.one x) s h j = absurd (j (omega (arith, s.ends)))
     last_goes b (tree.more l x) s h j =
@@ -90,14 +90,14 @@ module _ (d : ℕ) (src txt tr : List ℕ) where
           wrote = q.wrote;
         }
 
-    pub member_ends : {b : ℕ} {l : Tree (some i)} → Stands src txt tr b l e → f ≡ head_b b (plant l) → e - 1 ≡ f → Put (text d X l) b out at out₁ r
+    pub member_ends : {b : ℕ} {l : Tree (some i)} → Stands src txt tr b l e → f ≡ head_b b (plant l) → e - 1 ≡ f → Put (text d X l) b o o₁ r
     member_ends {b} {l} s h j = last_ends b l s h j
 
-    pub member_goes : {b : ℕ} {l : Tree (some i)} → Stands src txt tr b l e → f ≡ head_b b (plant l) → (e - 1 ≡ f → ⊥) → LeftOf d i src txt tr (text d X l) b f out at out₁ r.at r.end
+    pub member_goes : {b : ℕ} {l : Tree (some i)} → Stands src txt tr b l e → f ≡ head_b b (plant l) → (e - 1 ≡ f → ⊥) → LeftOf d i src txt tr (text d X l) b f o o₁ r
     member_goes {b} {l} s h j = last_goes b l s h j
 
-  module _ {i : Item} {t : List ℕ} {b f : ℕ} {out out₁ out₂ : List ℕ} {at at₁ e₁ : ℕ} (s : LeftOf d i src txt tr t b f out at out₁ at₁ e₁) where
-    pub of_goes : {at₂ e₂ : ℕ} → LeftOf d i src txt tr (text d X s.tree) b f out₁ at₁ out₂ at₂ e₂ → LeftOf d i src txt tr t b f out at out₂ at₂ e₂
+  module _ {i : Item} {t : List ℕ} {b f : ℕ} {o o₁ o₂ : Back} {e₁ : ℕ} (s : LeftOf d i src txt tr t b f o o₁ e₁) where
+    pub of_goes : {e₂ : ℕ} → LeftOf d i src txt tr (text d X s.tree) b f o₁ o₂ e₂ → LeftOf d i src txt tr t b f o o₂ e₂
     of_goes g = record {
       tree = g.tree;
       done = g.done ++ s.done;
@@ -107,25 +107,25 @@ module _ (d : ℕ) (src txt tr : List ℕ) where
       wrote = then s.wrote g.wrote;
     }
 
-    pub of_ends : {r : Spot} → Put (text d X s.tree) b out₁ at₁ out₂ r → Put t b out at out₂ r
+    pub of_ends : {r : ℕ} → Put (text d X s.tree) b o₁ o₂ r → Put t b o o₂ r
     of_ends g = record { wrote = same (sym s.parts) (then s.wrote g.wrote); first = g.first }
 
   -- ---- a list, which may be empty
 
   -- all of it is left
-  list_full : {i : Item} (out : List ℕ) (at b e f : ℕ) (l : Tree (list i)) → Stands src txt tr b l e → f ≡ head_b b (plant l) → (f ≡ none → ⊥) → LeftOf d i src txt tr (text d X l) b f out at out at e
+  list_full : {i : Item} (o : Back) (b e f : ℕ) (l : Tree (list i)) → Stands src txt tr b l e → f ≡ head_b b (plant l) → (f ≡ none → ⊥) → LeftOf d i src txt tr (text d X l) b f o o e
   unfolding Laid size_b head_b plant text
-  list_full out at b e f tree.nil s h j = absurd (j h)
-  list_full out at b e f (tree.full l) s h j =
-      record { tree = l; done = []; parts = sym (append-nil (text d X l)); stands = inner src txt tr s l s.laid s.ends (omega arith); head = h; wrote = nothing out at }
+  list_full o b e f tree.nil s h j = absurd (j h)
+  list_full o b e f (tree.full l) s h j =
+      record { tree = l; done = []; parts = sym (append-nil (text d X l)); stands = inner src txt tr s l s.laid s.ends (omega arith); head = h; wrote = nothing o }
 
-  pub of_all : {i : Item} {b e f : ℕ} {l : Tree (list i)} (out : List ℕ) (at : ℕ) → Stands src txt tr b l e → f ≡ head_b b (plant l) → (f ≡ none → ⊥) → LeftOf d i src txt tr (text d X l) b f out at out at e
-  of_all {b = b} {e = e} {f = f} {l = l} out at s h j = list_full out at b e f l s h j
+  pub of_all : {i : Item} {b e f : ℕ} {l : Tree (list i)} (o : Back) → Stands src txt tr b l e → f ≡ head_b b (plant l) → (f ≡ none → ⊥) → LeftOf d i src txt tr (text d X l) b f o o e
+  of_all {b = b} {e = e} {f = f} {l = l} o s h j = list_full o b e f l s h j
 
   list_none : {i : Item} → Line (a i) → (b e f : ℕ) (l : Tree (list i)) → Stands src txt tr b l e → f ≡ head_b b (plant l) → f ≡ none → (text d X l ≡ []) × (e ≡ b)
   unfolding size_b head_b plant text
   list_none n b e f tree.nil s h j = (refl, omega (arith, s.ends))
   list_none n b e f (tree.full l) s h j = let u = head_low n b l in absurd (omega (arith, s.ends, s.few))
 
-  pub none_put : {at : ℕ} {out : List ℕ} {e f : ℕ} → f ≡ none → PutsLines src txt tr d e f out at out (record { at = at; end = e })
-  none_put {at} {out} {e} {f} j i n b l s h = let q = list_none n b e f l s h j in record { wrote = same (sym q.0) (nothing out at); first = q.1 }
+  pub none_put : {o : Back} {e f : ℕ} → f ≡ none → PutsLines src txt tr d e f o o e
+  none_put {o} {e} {f} j i n b l s h = let q = list_none n b e f l s h j in record { wrote = same (sym q.0) (nothing o); first = q.1 }

@@ -9,7 +9,7 @@ use Rattle.standard.specs.Bare.{head_b}
 use Rattle.standard.specs.Plant.{plant}
 use Rattle.writer_expr.specs.Laid.{Stands}
 use Rattle.writer_expr.specs.Put.{Put}
-use Rattle.writer_expr.specs.declared.Spot.{Spot}
+use Rattle.writing.specs.declared.back.Back.{Back}
 
 -- what has lines of its own
 pub data Line : Sort → Type 0 where
@@ -61,15 +61,15 @@ pub record SomeProgram (src txt tr : List ℕ) (e : ℕ) : Type 0 where
 
 -- ---- the text of every one that stands there was put, where d blocks are open
 
-abbrev pub PutsLine : (src txt tr : List ℕ) → (d e : ℕ) (out : List ℕ) (at : ℕ) (out' : List ℕ) → Spot → Type 0
-PutsLine src txt tr d e out at out' r = (s : Sort) → Line s → (b : ℕ) (x : Tree s) → Stands src txt tr b x e → b < e → Put (text d X x) b out at out' r
+abbrev pub PutsLine : (src txt tr : List ℕ) → (d e : ℕ) (o n : Back) → ℕ → Type 0
+PutsLine src txt tr d e o n r = (s : Sort) → Line s → (b : ℕ) (x : Tree s) → Stands src txt tr b x e → b < e → Put (text d X x) b o n r
 
-abbrev pub PutsLines : (src txt tr : List ℕ) → (d e f : ℕ) (out : List ℕ) (at : ℕ) (out' : List ℕ) → Spot → Type 0
-PutsLines src txt tr d e f out at out' r = (i : Item) → Line (a i) → (b : ℕ) (l : Tree (list i)) → Stands src txt tr b l e → f ≡ head_b b (plant l) → Put (text d X l) b out at out' r
+abbrev pub PutsLines : (src txt tr : List ℕ) → (d e f : ℕ) (o n : Back) → ℕ → Type 0
+PutsLines src txt tr d e f o n r = (i : Item) → Line (a i) → (b : ℕ) (l : Tree (list i)) → Stands src txt tr b l e → f ≡ head_b b (plant l) → Put (text d X l) b o n r
 
-abbrev pub PutsElse : (src txt tr : List ℕ) → (d e f : ℕ) (out : List ℕ) (at : ℕ) (out' : List ℕ) → Spot → Type 0
-PutsElse src txt tr d e f out at out' r = (b : ℕ) (x : Tree other) → Stands src txt tr b x e → f ≡ head_b b (plant x) → Put (text d X x) b out at out' r
+abbrev pub PutsElse : (src txt tr : List ℕ) → (d e f : ℕ) (o n : Back) → ℕ → Type 0
+PutsElse src txt tr d e f o n r = (b : ℕ) (x : Tree other) → Stands src txt tr b x e → f ≡ head_b b (plant x) → Put (text d X x) b o n r
 
 -- "the one standard text" (02, change 6)
-abbrev pub PutsProgram : (src txt tr : List ℕ) → (e : ℕ) (out : List ℕ) (at : ℕ) (out' : List ℕ) → Spot → Type 0
-PutsProgram src txt tr e out at out' r = (b : ℕ) (x : Tree script) → Stands src txt tr b x e → Put (standard_text x) b out at out' r
+abbrev pub PutsProgram : (src txt tr : List ℕ) → (e : ℕ) (o n : Back) → ℕ → Type 0
+PutsProgram src txt tr e o n r = (b : ℕ) (x : Tree script) → Stands src txt tr b x e → Put (standard_text x) b o n r

@@ -13,7 +13,7 @@ use Rattle.standard.specs.Plant.{plant}
 use Rattle.writer_expr.specs.Levels.{text_of, text_whole}
 use Rattle.writer_expr.specs.Laid.{Stands, kind_at, word_at}
 use Rattle.writer_expr.specs.Put.{Put}
-use Rattle.writer_expr.specs.declared.Spot.{Spot}
+use Rattle.writing.specs.declared.back.Back.{Back}
 
 -- an expression or a Return; an Assign; If, While and Elif by their keyword; For, Def and Class; the rest by its keyword alone
 pub data Form : Type 0 where
@@ -113,5 +113,5 @@ pub record SomeWords (src txt tr : List ℕ) (m e : ℕ) : Type 0 where
   pub text : List ℕ
   pub says : Says (form_of (kind_at tr e)) src txt tr from m e text
 
-abbrev pub PutsWords : (src txt tr : List ℕ) → (List ℕ → List ℕ) → (m e : ℕ) (out : List ℕ) (at : ℕ) (out' : List ℕ) → Spot → Type 0
-PutsWords src txt tr f m e out at out' r = (b : ℕ) (w : List ℕ) → Says (form_of (kind_at tr e)) src txt tr b m e w → Put (f w) b out at out' r
+abbrev pub PutsWords : (src txt tr : List ℕ) → (List ℕ → List ℕ) → (m e : ℕ) (o n : Back) → ℕ → Type 0
+PutsWords src txt tr f m e o n r = (b : ℕ) (w : List ℕ) → Says (form_of (kind_at tr e)) src txt tr b m e w → Put (f w) b o n r

@@ -13,24 +13,16 @@ ghost use Rattle.writer_stmt.specs.Lines.{SomeLine, SomeLines, SomeElse, SomePro
 mod line;
 mod words;
 
-use writer_expr::Spot;
-use writer_expr::words::{kind_at, wide, word_at};
+use writer_expr::words::{kind_at, word_at};
+use writing::Back;
 
 // The whole text: node `nodes - 1` is the Program.
-pub fn put_program(
-    src: &[u8],
-    text: &[u8],
-    tree: &[u32],
-    out: &mut [u8],
-    at: usize,
-    nodes: usize,
-) -> Spot
-    requires some_program { SomeProgram src.now text.now tree.now nodes }
-    requires at_in_bounds { at ≤ length out.old + 1 }
-    ensures { PutsProgram src.now text.now tree.now nodes out.old at out.new result }
+pub fn put_program(src: &[u8], text: &[u8], tree: &[u32], back: &mut Back, nodes: usize) -> usize
+    requires { SomeProgram src.now text.now tree.now nodes }
+    ensures { PutsProgram src.now text.now tree.now nodes back.old back.new result }
 {
     let first = word_at(tree, nodes, 4);
-    put_lines(src, text, tree, out, at, nodes - 1, first, 0)
+    put_lines(src, text, tree, back, nodes - 1, first, 0)
 }
 
 // A list by its first node or none, the last member of which is node `end - 1`.
@@ -39,33 +31,26 @@ pub fn put_lines(
     src: &[u8],
     text: &[u8],
     tree: &[u32],
-    out: &mut [u8],
-    at: usize,
+    back: &mut Back,
     end: usize,
     first: u32,
     depth: usize,
-) -> Spot
+) -> usize
     requires some_lines { SomeLines src.now text.now tree.now end first }
-    requires at_in_bounds { (at ≤ length out.old + 1) × (depth + end ≤ none) }
-    ensures { PutsLines src.now text.now tree.now depth end first out.old at out.new result }
+    requires few { depth + end ≤ none }
+    ensures { PutsLines src.now text.now tree.now depth end first back.old back.new result }
 {
     if first == ast::NONE_NODE {
-        return Spot { at: at, end: end };
+        return end;
     }
-    let from = wide(first);
-    let mut next = at;
+    let from = first as usize;
     let mut e = end;
     loop {
         let last = e - 1;
-        let s = put_line(src, text, tree, out, next, e, depth);
+        e = put_line(src, text, tree, back, e, depth);
         if last == from {
-            return Spot {
-                at: s.at,
-                end: s.end,
-            };
+            return e;
         }
-        next = s.at;
-        e = s.end;
     }
 }
 
@@ -75,50 +60,41 @@ fn put_line(
     src: &[u8],
     text: &[u8],
     tree: &[u32],
-    out: &mut [u8],
-    at: usize,
+    back: &mut Back,
     end: usize,
     depth: usize,
-) -> Spot
+) -> usize
     requires some_line { SomeLine src.now text.now tree.now end }
-    requires at_in_bounds { (at ≤ length out.old + 1) × (depth + end ≤ none) }
-    ensures { PutsLine src.now text.now tree.now depth end out.old at out.new result }
+    requires few { depth + end ≤ none }
+    ensures { PutsLine src.now text.now tree.now depth end back.old back.new result }
 {
     let kind = kind_at(tree, end);
     if kind == ast::IF {
-        return put_if(src, text, tree, out, at, end, depth);
+        return put_if(src, text, tree, back, end, depth);
     }
-    let j = line::block_word(kind);
-    if j == 0 {
-        return line::put_simple(src, text, tree, out, at, end, depth);
-    }
+    let Some(j) = line::block_word(kind) else {
+        return line::put_simple(src, text, tree, back, end, depth);
+    };
     let first = word_at(tree, end, j);
-    let s = put_lines(src, text, tree, out, at, end - 1, first, depth + 1);
-    line::put_head(src, text, tree, out, s.at, s.end, end, depth)
+    let head = put_lines(src, text, tree, back, end - 1, first, depth + 1);
+    line::put_head(src, text, tree, back, head, end, depth)
 }
 
 // The Else, the Elifs, the block, and the line before them.
 #[cycle(put_lines)]
-fn put_if(
-    src: &[u8],
-    text: &[u8],
-    tree: &[u32],
-    out: &mut [u8],
-    at: usize,
-    end: usize,
-    depth: usize,
-) -> Spot
+fn put_if(src: &[u8], text: &[u8], tree: &[u32], back: &mut Back, end: usize, depth: usize) -> usize
     requires some_line { SomeLine src.now text.now tree.now end }
-    requires at_in_bounds { (at ≤ length out.old + 1) × (depth + end ≤ none) × (kind_at tree.now end ≡ kind.If) }
-    ensures { PutsLine src.now text.now tree.now depth end out.old at out.new result }
+    requires few { depth + end ≤ none }
+    requires branch { kind_at tree.now end ≡ kind.If }
+    ensures { PutsLine src.now text.now tree.now depth end back.old back.new result }
 {
     let block = word_at(tree, end, 5);
     let elifs = word_at(tree, end, 6);
     let other = word_at(tree, end, 7);
-    let s = put_else(src, text, tree, out, at, end - 1, other, depth);
-    let t = put_lines(src, text, tree, out, s.at, s.end, elifs, depth);
-    let u = put_lines(src, text, tree, out, t.at, t.end, block, depth + 1);
-    line::put_head(src, text, tree, out, u.at, u.end, end, depth)
+    let s = put_else(src, text, tree, back, end - 1, other, depth);
+    let t = put_lines(src, text, tree, back, s, elifs, depth);
+    let u = put_lines(src, text, tree, back, t, block, depth + 1);
+    line::put_head(src, text, tree, back, u, end, depth)
 }
 
 // The Else of an If, or none.
@@ -127,18 +103,17 @@ fn put_else(
     src: &[u8],
     text: &[u8],
     tree: &[u32],
-    out: &mut [u8],
-    at: usize,
+    back: &mut Back,
     end: usize,
     first: u32,
     depth: usize,
-) -> Spot
+) -> usize
     requires some_else { SomeElse src.now text.now tree.now end first }
-    requires at_in_bounds { (at ≤ length out.old + 1) × (depth + end ≤ none) }
-    ensures { PutsElse src.now text.now tree.now depth end first out.old at out.new result }
+    requires few { depth + end ≤ none }
+    ensures { PutsElse src.now text.now tree.now depth end first back.old back.new result }
 {
     if first == ast::NONE_NODE {
-        return Spot { at: at, end: end };
+        return end;
     }
-    put_line(src, text, tree, out, at, end, depth)
+    put_line(src, text, tree, back, end, depth)
 }

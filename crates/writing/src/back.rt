@@ -1,52 +1,83 @@
-// One byte, bytes of the source, and spaces. A run of bytes asks for room once.
-ghost use Rattle.std.specs.Prelude.{[], ◌∷◌, ◌+◌, ◌≤◌, length, replicate};
+// A lent slice that is written from the back: one byte, a text, bytes of the source, and spaces.
+ghost use Rattle.std.specs.Prelude.{◌≡◌, List, [], ◌∷◌, ℕ, ◌+◌, ◌≤◌, length, min, replicate};
 ghost use Rattle.source.specs.Bytes.{part};
-ghost use Rattle.writing.specs.Wrote.{Wrote};
 
-pub fn put(out: &mut [u8], at: usize, b: u8) -> usize
-    requires { at ≤ length out.old + 1 }
-    ensures { Wrote (b ∷ []) out.old at out.new result }
-{
-    if at < 2 {
-        return 0;
-    }
-    out[at - 2] = b;
-    at - 1
+use crate::front::{LONGEST, front};
+
+// What is put stands before what was put earlier.
+pub struct Back<'a> {
+    out: &'a mut [u8],
+    // One more than the place of the byte written last, and 0 once there was no room: no byte is put then. An Option would be asked at each byte.
+    at: usize,
+    ghost within: { at ≤ min (length out.now) 65536 + 1 },
 }
 
-// The bytes of the source between two places: a name, or a Float as it is spelled.
-pub fn put_part(src: &[u8], out: &mut [u8], at: usize, from: u32, to: u32) -> usize
-    requires from_le_to { (from ≤ to) × (to ≤ length src.now) }
-    requires at_in_bounds { at ≤ length out.old + 1 }
-    ensures { Wrote (part src.now from to) out.old at out.new result }
-{
-    let first = from as usize;
-    let bytes = to as usize - first;
-    if at <= bytes {
-        return 0;
-    }
-    let next = at - bytes;
-    let mut k: usize = 0;
-    while k < bytes {
-        out[next - 1 + k] = src[first + k];
-        k += 1;
-    }
-    next
-}
+impl<'a> Back<'a> {
+    ghost use Rattle.writing.specs.Wrote.{Wrote, Empty};
+    ghost use Rattle.writing.specs.Written.{Gives};
 
-// So many spaces, as a line begins with two for each level.
-pub fn put_spaces(out: &mut [u8], at: usize, n: usize) -> usize
-    requires { at ≤ length out.old + 1 }
-    ensures { Wrote (replicate n 32) out.old at out.new result }
-{
-    if at <= n {
-        return 0;
+    // Nothing is written yet. The slice takes a text of its own length, or the longest.
+    pub fn new(out: &'a mut [u8]) -> Back<'a>
+        ensures empty { Empty result out.old }
+        ensures same { result.out.ghost_name ≡ out.entry.ghost_name }
+    {
+        let at = out.len().min(LONGEST) + 1;
+        Back { out, at }
     }
-    let next = at - n;
-    let mut k: usize = 0;
-    while k < n {
-        out[next - 1 + k] = b' ';
-        k += 1;
+
+    pub fn put(&mut self, b: u8)
+        ensures { Wrote (b ∷ []) self.old self.new }
+    {
+        if self.at < 2 {
+            self.at = 0;
+            return;
+        }
+        self.at -= 1;
+        let place = self.at - 1;
+        self.out[place] = b;
     }
-    next
+
+    // All of a text: room is asked for once.
+    pub fn put_bytes(&mut self, text: &[u8])
+        ensures { Wrote text.now self.old self.new }
+    {
+        let last = self.at;
+        if last <= text.len() {
+            self.at = 0;
+            return;
+        }
+        let first = last - text.len();
+        self.at = first;
+        self.out[first - 1..last - 1].copy_from_slice(text);
+    }
+
+    // The bytes of the source between two places: a name, or a Float as it is spelled.
+    pub fn put_part(&mut self, src: &[u8], from: u32, to: u32)
+        requires { (from ≤ to) × (to ≤ length src.now) }
+        ensures { Wrote (part src.now from to) self.old self.new }
+    {
+        self.put_bytes(&src[from as usize..to as usize]);
+    }
+
+    // So many spaces, as a line begins with two for each level.
+    pub fn put_spaces(&mut self, n: usize)
+        ensures { Wrote (replicate n 32) self.old self.new }
+    {
+        let last = self.at;
+        if last <= n {
+            self.at = 0;
+            return;
+        }
+        let first = last - n;
+        self.at = first;
+        self.out[first - 1..last - 1].fill(b' ');
+    }
+
+    // The end: whatever text was written stands at the front, and zeros behind it; all is zero, and the answer none, where there was no room for it.
+    pub fn to_front(self) -> Option<usize>
+        ensures { (t before : List ℕ) (start : Back) → Empty start before → Wrote t start self.entry → Gives t (length before) result self.exit.0.now }
+    {
+        let Back { out, at } = self;
+        front(out, at)
+    }
 }

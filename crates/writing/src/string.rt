@@ -1,60 +1,56 @@
 // Strings in double quotes, with five bytes escaped.
-ghost use Rattle.std.specs.Prelude.{◌≡◌, ◌+◌, ◌≤◌, length};
+ghost use Rattle.std.specs.Prelude.{◌≡◌, ◌+◌, ◌≤◌, if◌then◌else◌, ◌==◌, length};
 ghost use Rattle.source.specs.Bytes.{part};
 ghost use Rattle.rendered.specs.Spelled.{letter, escaped, escaped_all, spelled_string};
 ghost use Rattle.writing.specs.Wrote.{Wrote};
 
-use crate::back::put;
+use crate::back::Back;
 
-// What stands behind the backslash of an escaped byte; 0 for a byte that stands for itself.
-fn letter(b: u8) -> u8
-    ensures { result ≡ letter b }
+// What stands behind the backslash of an escaped byte; none for a byte that stands for itself.
+#[tactic(auto, unfolding(rendered::specs::Spelled::letter))]
+fn letter(b: u8) -> Option<u8>
+    ensures { result ≡ (if letter b == 0 then None else Some (letter b)) }
 {
     match b {
-        b'\\' => b'\\',
-        b'"' => b'"',
-        b'\n' => b'n',
-        b'\t' => b't',
-        b'\r' => b'r',
-        _ => 0,
+        b'\\' => Some(b'\\'),
+        b'"' => Some(b'"'),
+        b'\n' => Some(b'n'),
+        b'\t' => Some(b't'),
+        b'\r' => Some(b'r'),
+        _ => None,
     }
 }
 
-fn put_escaped(out: &mut [u8], at: usize, b: u8) -> usize
-    requires { at ≤ length out.old + 1 }
-    ensures { Wrote (escaped b) out.old at out.new result }
-{
-    let behind = letter(b);
-    if behind == 0 {
-        return put(out, at, b);
+impl Back<'_> {
+    fn put_escaped(&mut self, b: u8)
+        ensures { Wrote (escaped b) self.old self.new }
+    {
+        match letter(b) {
+            None => self.put(b),
+            Some(behind) => {
+                self.put(behind);
+                self.put(b'\\');
+            }
+        }
     }
-    let next = put(out, at, behind);
-    put(out, next, b'\\')
-}
 
-// The last byte first.
-fn put_inside(text: &[u8], out: &mut [u8], at: usize, from: usize, to: usize) -> usize
-    requires from_le_to { (from ≤ to) × (to ≤ length text.now) }
-    requires at_in_bounds { at ≤ length out.old + 1 }
-    ensures { Wrote (escaped_all (part text.now from to)) out.old at out.new result }
-{
-    let mut next = at;
-    let mut k = to;
-    while from < k {
-        k -= 1;
-        next = put_escaped(out, next, text[k]);
+    // The last byte first.
+    fn put_inside(&mut self, text: &[u8])
+        ensures { Wrote (escaped_all text.now) self.old self.new }
+    {
+        for b in text.iter().rev() {
+            self.put_escaped(*b);
+        }
     }
-    next
-}
 
-// The q bytes of the text from place p on.
-pub fn put_string(text: &[u8], out: &mut [u8], at: usize, p: u32, q: u32) -> usize
-    requires q_in_bounds { p + q ≤ length text.now }
-    requires at_in_bounds { at ≤ length out.old + 1 }
-    ensures { Wrote (spelled_string (part text.now p (p + q))) out.old at out.new result }
-{
-    let from = p as usize;
-    let quote = put(out, at, b'"');
-    let next = put_inside(text, out, quote, from, from + q as usize);
-    put(out, next, b'"')
+    // The q bytes of the text from place p on.
+    pub fn put_string(&mut self, text: &[u8], p: u32, q: u32)
+        requires { p + q ≤ length text.now }
+        ensures { Wrote (spelled_string (part text.now p (p + q))) self.old self.new }
+    {
+        let from = p as usize;
+        self.put(b'"');
+        self.put_inside(&text[from..from + q as usize]);
+        self.put(b'"')
+    }
 }

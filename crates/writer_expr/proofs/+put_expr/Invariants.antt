@@ -4,9 +4,8 @@ use Prim.Native.Nat.{ℕ, ◌+◌, ◌*◌, ◌≤◌}
 use Rattle.writer_expr.specs.Laid.{Stands, Inline}
 use mathlib.Core.Path.{◌≡◌}
 use Rattle.writer_expr.specs.Put.{Left}
-use Rattle.writer_expr.specs.Levels.{text_at, text_of}
+use Rattle.writer_expr.specs.Levels.{number, text_at, text_of}
 use Rattle.unparse.specs.Trees.{a, Expr, Tree, Item, some}
-use lib.ListN.{length}
 use Rattle.writer_expr.proofs.Lists.{LeftOf}
 use Rattle.standard.specs.Plant.{plant}
 use Rattle.standard.specs.Bare.{head_b}
@@ -25,7 +24,7 @@ abbrev pub decreases-put_enclosed : goal.decreases-put_enclosed
 decreases-put_enclosed l = 32 * l.end + 1
 
 abbrev pub decreases-put_expr : goal.decreases-put_expr
-decreases-put_expr l = 32 * l.end + 4 * l.least + 3
+decreases-put_expr l = 32 * l.end + 4 * number l.least + 3
 
 abbrev pub decreases-put_index : goal.decreases-put_index
 decreases-put_index l = 32 * l.end + 1
@@ -58,16 +57,16 @@ abbrev pub decreases-put_unary : goal.decreases-put_unary
 decreases-put_unary l = 32 * l.end + 1
 
 abbrev pub decreases-step : goal.decreases-step
-decreases-step l = 32 * l.end + 4 * l.least + 2
+decreases-step l = 32 * l.end + 4 * number l.least + 2
 
-abbrev pub invariant-put_expr-loop-next : goal.invariant-put_expr-loop-next
-invariant-put_expr-loop-next l = (l.l ≤ 7) × (l.next ≤ length l.out + 1) × (32 * l.e + 4 * l.l ≤ 32 * l.end + 4 * l.least) × (length l.out ≡ length l.initial.out) × ((b : ℕ) (x : Tree (a Expr)) → Stands l.src l.text l.tree b x l.end → Left l.src l.text l.tree (text_at l.least x) b l.initial.out l.at l.out l.next l.e l.l)
+abbrev pub invariant-put_expr-loop-rule : goal.invariant-put_expr-loop-rule
+invariant-put_expr-loop-rule l = (32 * l.e + 4 * number l.l ≤ 32 * l.end + 4 * number l.fn.least) × ((b : ℕ) (x : Tree (a Expr)) → Stands l.src l.text l.tree b x l.end → Left l.src l.text l.tree (text_at (number l.fn.least) x) b l.initial.back l.back l.e (number l.l))
 
-abbrev pub decreases-put_expr-loop-next : goal.decreases-put_expr-loop-next
-decreases-put_expr-loop-next l = l.e
+abbrev pub decreases-put_expr-loop-rule : goal.decreases-put_expr-loop-rule
+decreases-put_expr-loop-rule l = l.e
 
-abbrev pub invariant-put_members-loop-s : goal.invariant-put_members-loop-s
-invariant-put_members-loop-s l = (l.next ≤ length l.out + 1) × (l.e ≤ l.end) × (length l.out ≡ length l.initial.out) × (l.from ≡ l.first) × ((i : Item) → Inline i → (b : ℕ) (ls : Tree (some i)) → Stands l.src l.text l.tree b ls l.end → l.first ≡ head_b b (plant ls) → LeftOf i l.src l.text l.tree (text_of ls) b l.from l.initial.out l.at l.out l.next l.e)
+abbrev pub invariant-put_members-loop-end : goal.invariant-put_members-loop-end
+invariant-put_members-loop-end l = (l.e ≤ l.end) × ((i : Item) → Inline i → (b : ℕ) (ls : Tree (some i)) → Stands l.src l.text l.tree b ls l.end → l.first ≡ head_b b (plant ls) → LeftOf i l.src l.text l.tree (text_of ls) b l.first l.initial.back l.back l.e)
 
-abbrev pub decreases-put_members-loop-s : goal.decreases-put_members-loop-s
-decreases-put_members-loop-s l = l.e
+abbrev pub decreases-put_members-loop-end : goal.decreases-put_members-loop-end
+decreases-put_members-loop-end l = l.e

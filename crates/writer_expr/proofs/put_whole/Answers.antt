@@ -7,7 +7,7 @@ use Rattle.writer_expr.proofs.put_whole.Goals as goal
 
 pub kind_at-requires : goal.kind_at-requires
 kind_at-requires c =
-    held c.requires.some.stands
+    held c.requires.stands
 
 pub returns-then-kind_at-ne-TUPLE : goal.returns-then-kind_at-ne-TUPLE
 returns-then-kind_at-ne-TUPLE c =
@@ -15,7 +15,7 @@ returns-then-kind_at-ne-TUPLE c =
 
 pub word_at-requires : goal.word_at-requires
 word_at-requires c =
-    let h = held c.requires.some.stands in (h.0, h.1, omega arith)
+    let h = held c.requires.stands in (h.0, h.1, omega arith)
 
 pub returns-then-word_at : goal.returns-then-word_at
 returns-then-word_at c =
@@ -23,4 +23,4 @@ returns-then-word_at c =
 
 pub put_inside-requires : goal.put_inside-requires
 put_inside-requires c =
-    record { some = c.requires.some; at_in_bounds = (omega arith, sym c.kind_at.ensures ∙ c.if-kind_at-ne-TUPLE.false, λ h. c.if-word_at.false (c.word_at.ensures ∙ h)) }
+    record { some = c.requires; tuple = (sym c.kind_at.ensures ∙ c.if-kind_at-ne-TUPLE.false, λ h. c.if-word_at.false (c.word_at.ensures ∙ h)) }

@@ -3,7 +3,6 @@
 use Prim.Native.Nat.{ℕ, ◌+◌, ◌*◌, ◌≤◌}
 use mathlib.Core.Path.{◌≡◌}
 use Rattle.writer_stmt.specs.Lines.{Line}
-use lib.ListN.{length}
 use Rattle.unparse.specs.Levels.{X}
 use Rattle.unparse.specs.Trees.{Item, a, list, Tree}
 use Rattle.standard.specs.Bare.{head_b}
@@ -25,8 +24,8 @@ decreases-put_line l = 4 * l.end + 1
 abbrev pub decreases-put_lines : goal.decreases-put_lines
 decreases-put_lines l = 4 * l.end + 2
 
-abbrev pub invariant-put_lines-loop-s : goal.invariant-put_lines-loop-s
-invariant-put_lines-loop-s l = (l.next ≤ length l.out + 1) × (l.e ≤ l.end) × (length l.out ≡ length l.initial.out) × (l.from ≡ l.first) × ((i : Item) → Line (a i) → (b : ℕ) (ls : Tree (list i)) → Stands l.src l.text l.tree b ls l.end → l.first ≡ head_b b (plant ls) → LeftOf l.depth i l.src l.text l.tree (standard.text l.depth X ls) b l.from l.initial.out l.at l.out l.next l.e)
+abbrev pub invariant-put_lines-loop-end : goal.invariant-put_lines-loop-end
+invariant-put_lines-loop-end l = (l.e ≤ l.end) × ((i : Item) → Line (a i) → (b : ℕ) (ls : Tree (list i)) → Stands l.src l.text l.tree b ls l.end → l.first ≡ head_b b (plant ls) → LeftOf l.depth i l.src l.text l.tree (standard.text l.depth X ls) b l.first l.initial.back l.back l.e)
 
-abbrev pub decreases-put_lines-loop-s : goal.decreases-put_lines-loop-s
-decreases-put_lines-loop-s l = l.e
+abbrev pub decreases-put_lines-loop-end : goal.decreases-put_lines-loop-end
+decreases-put_lines-loop-end l = l.e

@@ -8,21 +8,21 @@ use Rattle.writer_stmt.proofs.put_program.Goals as goal
 
 pub word_at-first-requires : goal.word_at-first-requires
 word_at-first-requires c =
-    let some = c.requires.some_program in
+    let some = c.requires in
     let v = whole _ _ _ some.stands in
     (v.there, some.stands.held, omega arith)
 
 pub overflow_sub-nodes : goal.overflow_sub-nodes
 overflow_sub-nodes c =
-    let v = whole _ _ _ c.requires.some_program.stands in
+    let v = whole _ _ _ c.requires.stands in
     omega (arith, v.there)
 
 pub put_lines-requires : goal.put_lines-requires
 put_lines-requires c =
-    let some = c.requires.some_program in
+    let some = c.requires in
     let v = whole _ _ _ some.stands in
     let n = some.stands.few in
-    record { some_lines = some_whole v c.word_at-first.ensures; at_in_bounds = (omega arith, omega arith) }
+    record { some_lines = some_whole v c.word_at-first.ensures; few = omega arith }
 
 pub returns : goal.returns
 returns c =

@@ -1,7 +1,7 @@
 -- `ffi::check::tarbucket_utf8_error` meets its contract: that of `utf8::utf8_error`, with its answer as words.
 use lib.ListN.{length-set}
 use native.Mathlib.Omega.{arith}
-use Rattle.utf8.specs.declared.Utf8.TheVariants.{WellFormed, IllFormed}
+use Rattle.std.specs.Prelude.{Some, None}
 use Rattle.ffi.proofs.Told.{no_words, told}
 use Rattle.ffi.proofs.check.tarbucket_utf8_error.Goals as goal
 
@@ -13,17 +13,17 @@ returns-then-answer-lt-CHECKED c =
 pub bounds-answer-0 : goal.bounds-answer-0
 bounds-answer-0 c = simp length-set (omega arith)
 
-pub bounds-answer-0-in-IllFormed : goal.bounds-answer-0-in-IllFormed
-bounds-answer-0-in-IllFormed c = simp length-set (omega arith)
+pub bounds-answer-0-in-Some : goal.bounds-answer-0-in-Some
+bounds-answer-0-in-Some c = simp length-set (omega arith)
 
-pub returns-in-WellFormed : goal.returns-in-WellFormed
-returns-in-WellFormed c =
+pub returns-in-None : goal.returns-in-None
+returns-in-None c =
     let a = c.args in
     let u = c.utf8_error-checked in
-    told a.src.now a.answer.now u.result.rounds WellFormed c.if-answer-lt-CHECKED.false u.ensures.found_value c.in-WellFormed.is u.ensures.rounds_value
+    told a.src.now a.answer.now u.result.rounds None c.if-answer-lt-CHECKED.false u.ensures.found_value c.in-None.is u.ensures.rounds_value
 
-pub returns-in-IllFormed : goal.returns-in-IllFormed
-returns-in-IllFormed c =
+pub returns-in-Some : goal.returns-in-Some
+returns-in-Some c =
     let a = c.args in
     let u = c.utf8_error-checked in
-    told a.src.now a.answer.now u.result.rounds (IllFormed _) c.if-answer-lt-CHECKED.false u.ensures.found_value c.in-IllFormed.is u.ensures.rounds_value
+    rw c.number.ensures (told a.src.now a.answer.now u.result.rounds (Some _) c.if-answer-lt-CHECKED.false u.ensures.found_value c.in-Some.is u.ensures.rounds_value)

@@ -1,5 +1,4 @@
 -- `ffi::written::refuse` meets its contract: two words of the reader's are stored anew.
-use mathlib.Core.Path.{refl}
 use lib.ListN.{length-set}
 use native.Mathlib.Omega.{arith}
 use Rattle.reader.specs.Answer.{numbers_of}
@@ -12,4 +11,5 @@ bounds-answer-1 c = simp length-set (omega arith)
 pub returns : goal.returns
 returns c =
     let a = c.args in
-    record { value = refl; answer_after = renumbered a.number (numbers_of a.read) a.answer.now c.write.ensures.answer_after }
+    let n = c.number-number.ensures in
+    record { value = n; answer_after = rw n (renumbered _ (numbers_of a.read) a.answer.now c.write.ensures.answer_after) }

@@ -19,7 +19,7 @@ put_string-requires c =
     let p = c.word_at-p.ensures in
     let q = c.word_at-q.ensures in
     let h = c.requires.leaf.string (sym c.kind_at.ensures ∙ c.in-20.is) in
-    record { q_in_bounds = omega arith; at_in_bounds = omega arith }
+    omega arith
 
 pub word_at-requires : goal.word_at-requires
 word_at-requires c = (omega arith, omega arith, omega arith)
@@ -32,7 +32,7 @@ put_part-requires c =
     let p = c.word_at.ensures in
     let q = c.word_at-in-21.ensures in
     let h = c.requires.leaf.float (sym c.kind_at.ensures ∙ c.in-21.is) in
-    record { from_le_to = (omega arith, omega arith); at_in_bounds = omega arith }
+    (omega arith, omega arith)
 
 pub put_part-requires-in_default : goal.put_part-requires-in_default
 put_part-requires-in_default c =
@@ -41,7 +41,7 @@ put_part-requires-in_default c =
     let q = c.word_at-q.ensures in
     let r = c.in_default.in_default-own.rest in
     let h = c.requires.leaf.name (λ g. r.0.0.0.0.1 (k ∙ g)) (λ g. r.0.0.0.1 (k ∙ g)) (λ g. r.0.0.1 (k ∙ g)) (λ g. r.0.1 (k ∙ g)) (λ g. r.1 (k ∙ g)) in
-    record { from_le_to = (omega arith, omega arith); at_in_bounds = omega arith }
+    (omega arith, omega arith)
 
 pub returns-in-22 : goal.returns-in-22
 returns-in-22 c =

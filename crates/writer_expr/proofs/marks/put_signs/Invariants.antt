@@ -5,7 +5,4 @@ use Prim.Native.Nat.{◌-◌, ◌≤◌}
 use Rattle.writer_expr.proofs.marks.put_signs.Given as goal
 
 abbrev pub invariant-loop-k : goal.invariant-loop-k
-invariant-loop-k l = (l.j ≤ l.k) × (l.k ≤ l.end) × Wrote (signs l.tree l.j (l.k - l.j)) l.initial.out l.at l.out l.next
-
-abbrev pub decreases-loop-k : goal.decreases-loop-k
-decreases-loop-k l = l.end - l.k
+invariant-loop-k l = (l.j ≤ l.k) × (l.k ≤ l.end) × Wrote (signs l.tree l.j (l.k - l.j)) l.initial.back l.back

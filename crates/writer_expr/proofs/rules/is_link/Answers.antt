@@ -2,7 +2,9 @@
 use Rattle.writer_expr.proofs.Chains.{not_link}
 use borrow.Author.Tests.{ltb-true, ltb-false}
 use native.Mathlib.Omega.{arith}
-use mathlib.Core.Path.{sym, ◌∙◌}
+use mathlib.Core.Path.{◌≡◌, sym, ◌∙◌}
+use Rattle.writer_expr.proofs.rules.is_link.Goals.{in-7-to-12, in_default, in_default-2}
+use mathlib.Core.Bool.{Bool, true, false}
 use Rattle.writer_expr.proofs.rules.is_link.Goals as goal
 
 pub returns-then-end-lt2 : goal.returns-then-end-lt2
@@ -38,13 +40,12 @@ overflow_sub-end-2 c = omega arith
 pub word_at-compare-requires : goal.word_at-compare-requires
 word_at-compare-requires c = (omega arith, omega arith, omega arith)
 
-pub returns-then-compare-lt7 : goal.returns-then-compare-lt7
-returns-then-compare-lt7 c =
-    not_link (λ l. let q = l.low in let p = c.word_at-compare.ensures in omega arith)
-
-pub returns-then-compare-gt12 : goal.returns-then-compare-gt12
-returns-then-compare-gt12 c =
-    not_link (λ l. let q = l.high in let p = c.word_at-compare.ensures in omega arith)
+pub returns-then-not-matches : goal.returns-then-not-matches
+returns-then-not-matches c = not_link (λ l.
+    let p = c.word_at-compare.ensures in
+    let q = l.low in
+    let r = l.high in
+    elim c.if-matches.branch [ in-7-to-12 w ↦ absurd (let z : ◌≡◌ {A = Bool} true false = sym w.matches-is ∙ c.if-not-matches.true in cc) | in_default w ↦ omega arith | in_default-2 w ↦ omega arith ])
 
 pub overflow_sub-end-3 : goal.overflow_sub-end-3
 overflow_sub-end-3 c = omega arith

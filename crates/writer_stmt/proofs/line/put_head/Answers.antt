@@ -4,4 +4,4 @@ use Rattle.writer_stmt.proofs.line.put_head.Goals as goal
 
 pub returns : goal.returns
 returns c =
-    λ b w s. head_put c.args.depth w c.put-feed.ensures c.put_fixed-colon.ensures (c.put_row.ensures b w s)
+    λ b w s. head_put c.args.depth w c.put.ensures c.put_fixed.ensures (c.put_row.ensures b w s)

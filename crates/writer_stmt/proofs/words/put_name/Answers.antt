@@ -3,5 +3,4 @@ use Rattle.writer_stmt.proofs.Said.{part_is, name_put}
 use Rattle.writer_stmt.proofs.words.put_name.Goals as goal
 
 pub returns : goal.returns
-returns c =
-    name_put c.args.code (part_is _ c.word_at-from.ensures c.word_at-to.ensures) c.put_part-name.ensures c.put_then_space.ensures
+returns c = name_put c.args.code (part_is _ c.word_at.ensures c.word_at-2.ensures) c.put_part.ensures c.put_then_space.ensures

@@ -1,9 +1,0 @@
--- `writing::int::put_digits` meets its contract: what is left of the digits are those of the rest.
-use Rattle.writing.proofs.Digits.{Rest}
-use Rattle.writing.proofs.int.put_digits.Given as goal
-
-abbrev pub invariant-loop-rest : goal.invariant-loop-rest
-invariant-loop-rest l = Rest l.n l.rest l.initial.out l.at l.out l.next
-
-abbrev pub decreases-loop-rest : goal.decreases-loop-rest
-decreases-loop-rest l = l.rest
