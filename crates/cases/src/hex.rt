@@ -4,7 +4,8 @@ ghost use Rattle.std.proofs.lemmas.List.Edits.{sets};
 ghost use Rattle.io.specs.Counts.{IsPrefixLen};
 ghost use Rattle.cases.specs.Hex.{nibble_of, unhexed};
 
-use crate::STDOUT_FILENO;
+use std::fmt;
+use std::fmt::{Display, Formatter};
 
 // A hexadecimal digit's value; any other byte counts as 0.
 fn nibble(b: u8) -> u8
@@ -24,27 +25,29 @@ pub fn unhex(hex: &[u8], out: &mut [u8]) -> usize
     ensures out_after { out.new ≡ sets out.old 0 (take (length out.old) (unhexed hex.now)) }
     ensures value { result ≡ length (take (length out.old) (unhexed hex.now)) }
 {
-    let mut n: usize = 0;
-    let mut i: usize = 0;
-    while i + 1 < hex.len() {
+    // n counts by hand, since of what a zip with `out.iter_mut()` wrote a proof knows nothing
+    let mut n = 0;
+    let mut digits = hex;
+    while let [high, low, rest @ ..] = digits {
         if n == out.len() {
-            return n;
+            break;
         }
-        out[n] = nibble(hex[i]) * 16 + nibble(hex[i + 1]);
+        out[n] = nibble(*high) * 16 + nibble(*low);
         n += 1;
-        i += 2;
+        digits = rest;
     }
     n
 }
 
-fn print_byte(b: u8) {
-    io::print_hex(STDOUT_FILENO, b as u64, 2);
-}
+// Bytes, printed so.
+#[derive(Clone, Copy)]
+pub struct Hex<'a>(pub &'a [u8]);
 
-pub fn print_bytes(s: &[u8]) {
-    let mut i: usize = 0;
-    while i < s.len() {
-        print_byte(s[i]);
-        i += 1;
+impl Display for Hex<'_> {
+    fn fmt<W: fmt::Write>(&self, f: &mut Formatter<W>) -> fmt::Result {
+        for b in self.0 {
+            write!(f, "{b:02x}")?;
+        }
+        Ok(())
     }
 }

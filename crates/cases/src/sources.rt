@@ -8,96 +8,57 @@ fn digit(b: u8) -> usize
     ensures { result ≤ 9 }
 {
     match b {
-        b'0'..=b'9' => (b - b'0') as usize,
+        b'0'..=b'9' => usize::from(b - b'0'),
         _ => 0,
     }
 }
 
 // The number that decimal digits spell, of which it has enough once it is over 99,999.
 pub fn count_of(digits: &[u8]) -> usize {
-    let mut x: usize = 0;
-    let mut i: usize = 0;
-    while i < digits.len() {
-        if 99999 < x {
-            return x;
-        }
-        x = 10 * x + digit(digits[i]);
-        i += 1;
-    }
-    x
+    digits
+        .iter()
+        .fold(0, |x, b| if 99999 < x { x } else { 10 * x + digit(*b) })
 }
 
-// The first place of the byte b from `at` on, or the end.
-pub fn find(s: &[u8], at: usize, b: u8) -> usize
-    requires { at ≤ length s.now }
-    ensures { (at ≤ result) × (result ≤ length s.now) }
-{
-    let mut i = at;
-    while i < s.len() {
-        if s[i] == b {
-            return i;
-        }
-        i += 1;
-    }
-    i
-}
-
-// Puts the bytes of s at `at`, as many as there is room for, and answers where they end.
-fn put(s: &[u8], out: &mut [u8], at: usize) -> usize
-    requires { at ≤ length out.old }
+// Puts the bytes of s at the start of out, as many as there is room for, and answers how many.
+fn put(s: &[u8], out: &mut [u8]) -> usize
     ensures { result ≤ length out.new }
 {
-    let mut n = at;
-    let mut i: usize = 0;
-    while i < s.len() {
-        if n == out.len() {
-            return n;
-        }
-        out[n] = s[i];
-        n += 1;
-        i += 1;
-    }
+    let n = s.len().min(out.len());
+    out[..n].copy_from_slice(&s[..n]);
     n
 }
 
-fn put_row(s: &[u8], times: usize, out: &mut [u8], at: usize) -> usize
-    requires { at ≤ length out.old }
+fn put_row(s: &[u8], times: usize, out: &mut [u8]) -> usize
     ensures { result ≤ length out.new }
 {
-    let mut n = at;
-    let mut k: usize = 0;
-    while k < times {
-        n = put(s, out, n);
-        k += 1;
+    let mut n = 0;
+    for _ in 0..times {
+        n += put(s, &mut out[n..]);
     }
     n
 }
 
 // A piece has at most 4,096 bytes.
-fn put_piece(piece: &[u8], out: &mut [u8], at: usize) -> usize
-    requires { at ≤ length out.old }
+fn put_piece(piece: &[u8], out: &mut [u8]) -> usize
     ensures { result ≤ length out.new }
 {
-    let mut buffer = io::buffer();
-    let star = find(piece, 0, b'*');
-    let n = unhex(&piece[..star], &mut buffer);
-    if star == piece.len() {
-        return put(&buffer[..n], out, at);
-    }
-    let times = count_of(&piece[star + 1..]);
-    put_row(&buffer[..n], times, out, at)
+    let (hex, times) = match piece.iter().position(|b| *b == b'*') {
+        Some(star) => (&piece[..star], count_of(&piece[star + 1..])),
+        None => (piece, 1),
+    };
+    let mut space = [0; 4096];
+    let n = unhex(hex, &mut space);
+    put_row(&space[..n], times, out)
 }
 
 // Puts the source at the start of out, as much of it as there is room for, and answers how long it is.
 pub fn expand(spelt: &[u8], out: &mut [u8]) -> usize
     ensures { IsPrefixLen result out.new }
 {
-    let mut n: usize = 0;
-    let mut at: usize = 0;
-    while at < spelt.len() {
-        let end = find(spelt, at, b'+');
-        n = put_piece(&spelt[at..end], out, n);
-        at = end + 1;
+    let mut n = 0;
+    for piece in spelt.split(|b| *b == b'+') {
+        n += put_piece(piece, &mut out[n..]);
     }
     n
 }

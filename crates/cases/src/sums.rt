@@ -1,58 +1,53 @@
 // A slice shown by its length and two sums of all its words.
-ghost use Rattle.std.specs.Prelude.{◌<◌};
+ghost use Rattle.std.specs.Prelude.{◌≡◌, ◌<◌, ◌≤◌, ◌^◌, length};
+ghost use Rattle.std.specs.List.{FoldsTo};
+ghost use Rattle.cases.specs.Sums.{Adds};
 
-use crate::{print, print_next, print_number};
+use std::fmt;
+use std::fmt::{Display, Formatter};
 
-// A word w makes a sum x into x * base + w + 1, modulo a prime.
-fn first_sum(x: u64, w: u32) -> u64
-    requires { x < 4294967296 }
-    ensures { result < 4294967296 }
+// Each word w, a byte or more, makes the sum x into x * BASE + w + 1, modulo a prime.
+fn sum<const BASE: u64, const PRIME: u64, T: Copy + Into<u32>>(words: &[T]) -> u64
+    requires base { BASE < 2 ^ 31 }
+    requires prime { (0 < PRIME) × (PRIME ≤ 2 ^ 32) }
+    ensures { FoldsTo (Adds T.converts BASE PRIME) 0 words.now result }
 {
-    (x * 65599 + w as u64 + 1) % 4294967291
-}
-
-fn second_sum(x: u64, w: u32) -> u64
-    requires { x < 4294967296 }
-    ensures { result < 4294967296 }
-{
-    (x * 69069 + w as u64 + 1) % 4294967279
-}
-
-fn print_three(count: usize, a: u64, b: u64) {
-    print(b" |");
-    print_next(count);
-    print(b" ");
-    print_number(a);
-    print(b" ");
-    print_number(b);
-}
-
-// A byte as a word.
-fn word_of(b: u8) -> u32 {
-    b as u32
-}
-
-pub fn print_word_sums(s: &[u32]) {
-    let mut a: u64 = 0;
-    let mut b: u64 = 0;
-    let mut i: usize = 0;
-    while i < s.len() {
-        a = first_sum(a, s[i]);
-        b = second_sum(b, s[i]);
-        i += 1;
+    let mut x = 0;
+    for w in words {
+        let w: u32 = (*w).into();
+        x = (x * BASE + u64::from(w) + 1) % PRIME;
     }
-    print_three(s.len(), a, b);
+    x
 }
 
-pub fn print_byte_sums(s: &[u8]) {
-    let mut a: u64 = 0;
-    let mut b: u64 = 0;
-    let mut i: usize = 0;
-    while i < s.len() {
-        let w = word_of(s[i]);
-        a = first_sum(a, w);
-        b = second_sum(b, w);
-        i += 1;
+#[derive(Clone, Copy)]
+pub struct Sums {
+    count: usize,
+    first: u64,
+    second: u64,
+}
+
+impl Sums {
+    pub fn of<T: Copy + Into<u32>>(words: &[T]) -> Sums
+        ensures count { result.count ≡ length words.now }
+        ensures first { FoldsTo (Adds T.converts 65599 4294967291) 0 words.now result.first }
+        ensures second { FoldsTo (Adds T.converts 69069 4294967279) 0 words.now result.second }
+    {
+        Sums {
+            count: words.len(),
+            first: sum::<65599, 4294967291, T>(words),
+            second: sum::<69069, 4294967279, T>(words),
+        }
     }
-    print_three(s.len(), a, b);
+}
+
+impl Display for Sums {
+    fn fmt<W: fmt::Write>(&self, f: &mut Formatter<W>) -> fmt::Result {
+        let Sums {
+            count,
+            first,
+            second,
+        } = self;
+        write!(f, " | {count} {first} {second}")
+    }
 }

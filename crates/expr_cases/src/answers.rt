@@ -2,9 +2,11 @@
 ghost use Rattle.std.specs.Prelude.{◌≤◌, length};
 ghost use Rattle.lookahead.specs.Tokens.{Tokens};
 
-use cases::{STDOUT_FILENO, print};
-use leaves::{Parsed, State};
+use leaves::{Added, Refused, State};
 use lexer::Scanned;
+use source::Refusal;
+use std::io;
+use std::ops::Range;
 use token::TokenNumber;
 
 // The longest source: its areas have 3,072 words of tokens, 1,023 bytes of text and 16,384 words of tree.
@@ -13,49 +15,33 @@ const LONGEST: usize = 1023;
 // "At most 64 E and Block open at once" (01, Questions).
 const DEPTH: u32 = 64;
 
-fn print_number(x: u64) {
-    print(b" ");
-    io::print_decimal(STDOUT_FILENO, x);
-}
-
-fn print_word(w: u32) {
-    print_number(w as u64);
-}
-
-// The words from `from` up to `to`.
-fn print_words(s: &[u32], from: usize, to: usize) {
-    let mut i = from;
-    while i < to {
-        if s.len() <= i {
-            print(b" end");
-            return;
-        }
-        print_word(s[i]);
-        i += 1;
+fn print_words(rt: &impl Print, s: &[u32], range: Range<usize>) -> io::Result<()> {
+    let Some(words) = s.get(range) else {
+        return print!(rt; " end");
+    };
+    for w in words {
+        print!(rt; " {w}")?;
     }
+    Ok(())
 }
 
-fn print_nodes(tree: &[u32], s: State) {
-    let at = s.at;
-    print(b"ok");
-    print_word(at.0);
-    print_word(s.nodes);
-    print_word(s.opened);
-    let end = 8 * (s.nodes as usize) + 8;
-    print_words(tree, 8, end);
+fn print_nodes(rt: &impl Print, tree: &[u32], s: State) -> io::Result<()> {
+    let TokenNumber(at) = s.at;
+    let nodes = s.nodes;
+    print!(rt; "ok {at} {nodes} {}", s.opened)?;
+    print_words(rt, tree, 8..8 * (nodes as usize) + 8)
 }
 
 // The place is where the state's token starts.
-fn print_refusal(toks: &[u32], number: u32, s: State) {
-    let at = s.at;
-    let i = 3 * (at.0 as usize) + 1;
-    print(b"no");
-    print_word(number);
-    print_words(toks, i, i + 1);
-    print_word(s.opened);
+fn print_refusal(rt: &impl Print, toks: &[u32], number: u32, s: State) -> io::Result<()> {
+    let TokenNumber(at) = s.at;
+    let i = 3 * (at as usize) + 1;
+    print!(rt; "no {number}")?;
+    print_words(rt, toks, i..i + 1)?;
+    print!(rt; " {}", s.opened)
 }
 
-fn print_tree(src: &[u8], toks: &[u32])
+fn print_tree(rt: &impl Print, src: &[u8], toks: &[u32]) -> io::Result<()>
     requires tokens { Tokens src.now toks.now }
     requires toks_len_bound { length toks.now ≤ 3072 }
 {
@@ -67,27 +53,22 @@ fn print_tree(src: &[u8], toks: &[u32])
         used: 0,
     };
     match expr::comma_list(src, toks, &mut tree, DEPTH, s) {
-        Parsed::Node(_, after) => print_nodes(&tree, after),
-        Parsed::Refused(number, after) => print_refusal(toks, number, after),
+        Ok(Added(_, after)) => print_nodes(rt, &tree, after),
+        Err(Refused(reason, after)) => print_refusal(rt, toks, reason.number(), after),
     }
 }
 
-pub fn print_answer(src: &[u8]) {
+pub fn print_answer(rt: &impl Print, src: &[u8]) -> io::Result<()> {
     if LONGEST < src.len() {
-        print(b"too long");
-        return;
+        return print!(rt; "too long");
     }
     let mut tokens = [0; 3072];
     let mut text = [0; 1023];
     match lexer::scan(src, &mut tokens, &mut text) {
-        Scanned::Tokens { count, text: _ } => {
+        Ok(Scanned { count, text: _ }) => {
             let words = 3 * (count + 1);
-            print_tree(src, &tokens[..words]);
+            print_tree(rt, src, &tokens[..words])
         }
-        Scanned::No { number, place } => {
-            print(b"no");
-            print_word(number);
-            print_number(place as u64);
-        }
+        Err(Refusal { reason, place }) => print!(rt; "no {} {place}", reason.number()),
     }
 }

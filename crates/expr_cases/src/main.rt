@@ -12,30 +12,18 @@ mod answers;
 
 use answers::print_answer;
 use cases::hex::unhex;
-use cases::lines::{line_end, read_full};
-use cases::print;
+use cases::lines::read_full;
+use cases::replay::replay_text;
+use std::io;
 
-fn print_case(line: &[u8]) {
-    print(line);
-    print(b" = ");
-    let mut buffer = io::buffer();
-    let n = unhex(line, &mut buffer);
-    print_answer(&buffer[..n]);
-    print(b"\n");
-}
-
-// Each line of text, the last with or without its line feed.
-fn print_cases(text: &[u8]) {
-    let mut at: usize = 0;
-    while at < text.len() {
-        let end = line_end(text, at);
-        print_case(&text[at..end]);
-        at = end + 1;
-    }
+fn print_result(rt: &impl Print, line: &[u8]) -> io::Result<()> {
+    let mut space = [0; 4096];
+    let n = unhex(line, &mut space);
+    print_answer(rt, &space[..n])
 }
 
 fn main(rt: HostRuntime) {
-    let mut buffer = io::large_buffer();
-    let n = read_full(&mut rt.stdin(), &mut buffer);
-    print_cases(&buffer[..n]);
+    let mut text = [0; 65536];
+    let n = read_full(&mut rt.stdin(), &mut text);
+    replay_text(&rt, &text[..n], |line| print_result(&rt, line));
 }

@@ -1,103 +1,85 @@
 // What a leaf answers for one case, printed.
 ghost use Rattle.std.specs.Prelude.{◌≤◌, length};
 
-use cases::hex::print_bytes;
-use cases::{STDOUT_FILENO, print};
-use numbers::decimal::Decimal;
+use cases::hex::Hex;
 use numbers::halves::Halves;
-use numbers::integer::Integer;
 use raw_token::RawToken;
-use utf8::Utf8;
+use std::io;
 use utf8::character::Character;
 
 // Where a decoded string begins in the text, so that its place plays a part.
 const TEXT_AT: usize = 1;
 
-fn print_halves(h: Halves) {
-    io::print_hex(STDOUT_FILENO, h.high as u64, 8);
-    io::print_hex(STDOUT_FILENO, h.low as u64, 8);
+fn print_halves(rt: &impl Print, h: Halves) -> io::Result<()> {
+    let Halves { high, low } = h;
+    print!(rt; "{high:08x}{low:08x}")
 }
 
-pub fn print_int(s: &[u8]) {
+pub fn print_int(rt: &impl Print, s: &[u8]) -> io::Result<()> {
     match numbers::integer::int_value(s) {
-        Integer::Value(n) => print_halves(numbers::halves::of_i64(n)),
-        Integer::OutOfRange => print(b"-"),
+        Some(n) => print_halves(rt, Halves::from(n)),
+        None => print!(rt; "-"),
     }
 }
 
-pub fn print_float(s: &[u8]) {
+pub fn print_float(rt: &impl Print, s: &[u8]) -> io::Result<()> {
     match numbers::decimal::float_value(s) {
-        Decimal::Value(x) => print_halves(numbers::halves::of_f64(x)),
-        Decimal::NotAdmitted => print(b"-"),
+        Some(x) => print_halves(rt, Halves::of_f64(x)),
+        None => print!(rt; "-"),
     }
 }
 
-fn print_token(s: &[u8], at: usize) {
+fn print_token(rt: &impl Print, s: &[u8], at: usize) -> io::Result<()> {
     match raw_token::token_at(s, at) {
-        RawToken::Found { code, end } => {
-            io::print_decimal(STDOUT_FILENO, code as u64);
-            print(b":");
-            io::print_decimal(STDOUT_FILENO, end as u64);
-        }
-        RawToken::NoMatch => print(b"-"),
+        Some(RawToken { code, end }) => print!(rt; "{code}:{end}"),
+        None => print!(rt; "-"),
     }
 }
 
-pub fn print_tokens(s: &[u8]) {
-    print_token(s, 0);
-    let mut at: usize = 0;
-    while at < s.len() {
-        at += 1;
-        print(b" ");
-        print_token(s, at);
+pub fn print_tokens(rt: &impl Print, s: &[u8]) -> io::Result<()> {
+    print_token(rt, s, 0)?;
+    for at in 1..=s.len() {
+        print!(rt; " ")?;
+        print_token(rt, s, at)?;
     }
+    Ok(())
 }
 
 // A case has at most 4,096 bytes, so the text has room for it behind TEXT_AT.
-pub fn print_string(s: &[u8])
+pub fn print_string(rt: &impl Print, s: &[u8]) -> io::Result<()>
     requires { length s.now ≤ 4096 }
 {
-    let mut text = io::large_buffer();
+    let mut text = [0; 65536];
     let end = strings::process_string_escapes(s, &mut text, TEXT_AT);
-    print_bytes(&text[TEXT_AT..end]);
-    print(b" ");
-    io::print_decimal(STDOUT_FILENO, strings::decoded_len(s) as u64);
+    let decoded = &text[TEXT_AT..end];
+    print!(rt; "{} {}", Hex(decoded), strings::decoded_len(s))
 }
 
-pub fn print_utf8(s: &[u8]) {
+pub fn print_utf8(rt: &impl Print, s: &[u8]) -> io::Result<()> {
     let checked = utf8::utf8_error(s);
-    let found = checked.found;
-    match found {
-        Utf8::WellFormed => print(b"well-formed"),
-        Utf8::IllFormed(at) => {
-            io::print_decimal(STDOUT_FILENO, at as u64);
-        }
+    match checked.found {
+        None => print!(rt; "well-formed")?,
+        Some(at) => print!(rt; "{at}")?,
     }
-    print(b" ");
-    io::print_decimal(STDOUT_FILENO, checked.rounds as u64);
+    print!(rt; " {}", checked.rounds)
 }
 
-fn print_character(c: Character) {
-    io::print_decimal(STDOUT_FILENO, c.code as u64);
-    if xid::is_start(c.code) {
-        print(b"s");
-    }
-    if xid::is_continue(c.code) {
-        print(b"c");
-    }
-    print(b";");
+fn print_character(rt: &impl Print, c: Character) -> io::Result<()> {
+    let code = c.code;
+    let s = if xid::is_start(code) { "s" } else { "" };
+    let c = if xid::is_continue(code) { "c" } else { "" };
+    print!(rt; "{code}{s}{c};")
 }
 
-pub fn print_characters(s: &[u8]) {
-    let mut at: usize = 0;
+pub fn print_characters(rt: &impl Print, s: &[u8]) -> io::Result<()> {
+    // a step is one to four bytes, by what was decoded
+    let mut at = 0;
     while at < s.len() {
-        let c = utf8::character::decode(s, at);
-        let len = c.len;
-        if len == 0 {
-            print(b"none");
-            return;
-        }
-        print_character(c);
-        at += len;
+        let Some(c) = utf8::character::decode(s, at) else {
+            return print!(rt; "none");
+        };
+        print_character(rt, c)?;
+        at += c.len;
     }
+    Ok(())
 }

@@ -15,66 +15,32 @@ mod answers;
 
 use answers::{print_characters, print_float, print_int, print_string, print_tokens, print_utf8};
 use cases::hex::unhex;
-use cases::lines::line_end;
-use cases::print;
-use std::env::FillError;
-use std::io::Eprint;
-use std::rt::{Env, Files};
+use cases::replay::replay;
+use std::io;
 
 // The result of a case whose bytes are written in hexadecimal.
-fn print_bytes_case(letter: u8, hex: &[u8]) {
-    let mut buffer = io::buffer();
-    let n = unhex(hex, &mut buffer);
-    let s = &buffer[..n];
+fn print_bytes_result(rt: &impl Print, letter: u8, hex: &[u8]) -> io::Result<()> {
+    let mut space = [0; 4096];
+    let n = unhex(hex, &mut space);
+    let s = &space[..n];
     match letter {
-        b't' => print_tokens(s),
-        b's' => print_string(s),
-        b'u' => print_utf8(s),
-        b'c' => print_characters(s),
-        _ => print(b"no such case"),
+        b't' => print_tokens(rt, s),
+        b's' => print_string(rt, s),
+        b'u' => print_utf8(rt, s),
+        b'c' => print_characters(rt, s),
+        _ => print!(rt; "no such case"),
     }
 }
 
-fn print_case(line: &[u8]) {
-    print(line);
-    print(b" = ");
-    if line.len() < 2 {
-        print(b"no case\n");
-        return;
-    }
-    let rest = &line[2..];
-    match line[0] {
-        b'i' => print_int(rest),
-        b'f' => print_float(rest),
-        letter => print_bytes_case(letter, rest),
-    }
-    print(b"\n");
-}
-
-// Each line of text, the last with or without its line feed.
-fn print_cases(text: &[u8]) {
-    let mut at: usize = 0;
-    while at < text.len() {
-        let end = line_end(text, at);
-        print_case(&text[at..end]);
-        at = end + 1;
+fn print_result(rt: &impl Print, line: &[u8]) -> io::Result<()> {
+    match line {
+        [b'i', _, text @ ..] => print_int(rt, text),
+        [b'f', _, text @ ..] => print_float(rt, text),
+        [letter, _, hex @ ..] => print_bytes_result(rt, *letter, hex),
+        _ => print!(rt; "no case"),
     }
 }
 
-fn print_file<R: Files + Eprint>(rt: &R, path: &[u8]) {
-    let mut buffer = io::large_buffer();
-    let n = cases::lines::read(rt, path, &mut buffer);
-    print_cases(&buffer[..n]);
-}
-
-// An argument that is too long names no file.
 fn main(rt: HostRuntime) {
-    for i in 1..usize::MAX {
-        let mut path = io::buffer();
-        match rt.arg(i, &mut path) {
-            Ok(n) => print_file(&rt, &path[..n]),
-            Err(FillError::TooLong) => print_file(&rt, b""),
-            Err(FillError::NotPresent) => return,
-        }
-    }
+    replay(&rt, |line| print_result(&rt, line));
 }

@@ -9,53 +9,35 @@
 #![tactic(auto)]
 
 mod answers;
-mod slices;
 
-use cases::lines::line_end;
-use cases::print;
+use answers::{print_answer, print_slices, print_sums};
+use cases::lent::{Marks, SMALL, lend};
+use cases::replay::replay;
 use cases::sources::expand;
-use slices::replay;
-use std::env::FillError;
-use std::io::Eprint;
-use std::rt::{Env, Files};
+use std::io;
 
-fn print_case(line: &[u8]) {
-    print(line);
-    print(b" = ");
-    if line.len() < 4 {
-        print(b"no case\n");
-        return;
-    }
+fn print_result(rt: &impl Print, line: &[u8]) -> io::Result<()> {
+    let [a, b, c, _, spelt @ ..] = line else {
+        return print!(rt; "no case");
+    };
     let mut space = [0; 65600];
-    let n = expand(&line[4..], &mut space);
-    replay(&space[..n], line[0], line[1], line[2]);
-    print(b"\n");
-}
-
-// Each line of text, the last with or without its line feed.
-fn print_cases(text: &[u8]) {
-    let mut at: usize = 0;
-    while at < text.len() {
-        let end = line_end(text, at);
-        print_case(&text[at..end]);
-        at = end + 1;
-    }
-}
-
-fn print_file<R: Files + Eprint>(rt: &R, path: &[u8]) {
-    let mut buffer = io::large_buffer();
-    let n = cases::lines::read(rt, path, &mut buffer);
-    print_cases(&buffer[..n]);
-}
-
-// An argument that is too long names no file.
-fn main(rt: HostRuntime) {
-    for i in 1..usize::MAX {
-        let mut path = io::buffer();
-        match rt.arg(i, &mut path) {
-            Ok(n) => print_file(&rt, &path[..n]),
-            Err(FillError::TooLong) => print_file(&rt, b""),
-            Err(FillError::NotPresent) => return,
+    let n = expand(spelt, &mut space);
+    let src = &space[..n];
+    let marks = Marks {
+        tokens: *a,
+        text: *b,
+        tree: *c,
+    };
+    lend(n, marks, |tokens, text, tree| {
+        print_answer(rt, reader::parse_source(src, tokens, text, tree))?;
+        if n <= SMALL {
+            print_slices(rt, tokens, text, tree)
+        } else {
+            print_sums(rt, tokens, text, tree)
         }
-    }
+    })
+}
+
+fn main(rt: HostRuntime) {
+    replay(&rt, |line| print_result(&rt, line));
 }

@@ -12,37 +12,16 @@ mod answers;
 
 use answers::print_answer;
 use cases::hex::unhex;
-use cases::lines::line_end;
-use cases::print;
-use std::io::Eprint;
-use std::rt::Files;
+use cases::replay::replay_file;
+use std::io;
 
-fn print_case(line: &[u8]) {
-    print(line);
-    print(b" = ");
-    let mut buffer = io::buffer();
-    let n = unhex(line, &mut buffer);
-    print_answer(&buffer[..n]);
-    print(b"\n");
-}
-
-// Each line of text, the last with or without its line feed.
-fn print_cases(text: &[u8]) {
-    let mut at: usize = 0;
-    while at < text.len() {
-        let end = line_end(text, at);
-        print_case(&text[at..end]);
-        at = end + 1;
-    }
-}
-
-fn print_file<R: Files + Eprint>(rt: &R, path: &[u8]) {
-    let mut buffer = io::large_buffer();
-    let n = cases::lines::read(rt, path, &mut buffer);
-    print_cases(&buffer[..n]);
+fn print_result(rt: &impl Print, line: &[u8]) -> io::Result<()> {
+    let mut space = [0; 4096];
+    let n = unhex(line, &mut space);
+    print_answer(rt, &space[..n])
 }
 
 fn main(rt: HostRuntime) {
-    print_file(&rt, b"picked");
-    print_file(&rt, b"generated");
+    replay_file(&rt, b"picked", |line| print_result(&rt, line));
+    replay_file(&rt, b"generated", |line| print_result(&rt, line));
 }

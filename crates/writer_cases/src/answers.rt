@@ -1,59 +1,64 @@
-// The seven numbers of an answer, printed.
-use cases::{print, print_next, print_number};
+// An answer's seven numbers and the text after it, printed.
+use cases::hex::Hex;
+use cases::lent::SMALL;
+use cases::sums::Sums;
+use reader::{Stop, Tree};
+use std::io;
 use writer::Answer;
 
-fn print_counts(tokens: usize, nodes: usize, text: usize, openings: usize) {
-    print_next(tokens);
-    print_next(nodes);
-    print_next(text);
-    print_next(openings);
-}
-
-fn print_refusal(number: u32, place: usize) {
-    print_number(number as u64);
-    print_next(place);
-}
-
 // The reader's six numbers. Of an accepted tree `accepted` is the first; "a number without a named place has place 0" (02, change 6).
-fn print_read(a: reader::Answer, accepted: u32) {
+fn print_read(rt: &impl Print, a: reader::Answer, accepted: u32) -> io::Result<()> {
     match a {
-        reader::Answer::Tree {
-            tokens,
-            nodes,
-            text,
-            openings,
-        } => {
-            print_refusal(accepted, 0);
-            print_counts(tokens, nodes, text, openings);
-        }
-        reader::Answer::No { number, place } => {
-            print_refusal(number, place);
-            print_counts(0, 0, 0, 0);
-        }
-        reader::Answer::Stopped {
-            number,
-            place,
-            tokens,
-            nodes: _,
-            openings,
-        } => {
-            print_refusal(number, place);
-            print_counts(tokens, 0, 0, openings);
+        Ok(
+            Tree {
+                tokens,
+                nodes,
+                text,
+                openings,
+            },
+        ) => print!(rt; "{accepted} 0 {tokens} {nodes} {text} {openings}"),
+        Err(
+            Stop {
+                refusal,
+                tokens,
+                nodes: _,
+                openings,
+            },
+        ) => {
+            let number = refusal.reason.number();
+            print!(rt; "{number} {} {tokens} 0 0 {openings}", refusal.place)
         }
     }
 }
 
 // These six, and the length of the text.
-fn print_seven(read: reader::Answer, accepted: u32, length: usize) {
-    print_read(read, accepted);
-    print_next(length);
+fn print_seven(
+    rt: &impl Print,
+    read: reader::Answer,
+    accepted: u32,
+    length: usize,
+) -> io::Result<()> {
+    print_read(rt, read, accepted)?;
+    print!(rt; " {length}")
 }
 
-pub fn print_answer(a: Answer) {
+pub fn print_answer(rt: &impl Print, a: Answer) -> io::Result<()> {
     match a {
-        Answer::Text(read, length) => print_seven(read, 0, length),
-        Answer::Hollow(read) => print_seven(read, 17, 0),
-        Answer::Full(read) => print_seven(read, 18, 0),
-        Answer::Unread(read) => print_seven(read, 0, 0),
+        Answer::Text(read, length) => print_seven(rt, read, 0, length),
+        Answer::Hollow(read) => print_seven(rt, read, 17, 0),
+        Answer::Full(read) => print_seven(rt, read, 18, 0),
+        Answer::Unread(read) => print_seven(rt, read, 0, 0),
     }
+}
+
+// All of the writer's own slice.
+pub fn print_out(rt: &impl Print, out: &[u8]) -> io::Result<()> {
+    if SMALL < out.len() {
+        return print!(rt; "{}", Sums::of(out));
+    }
+    print!(rt; " |")?;
+    if !out.is_empty() {
+        print!(rt; " {}", Hex(out))?;
+    }
+    Ok(())
 }

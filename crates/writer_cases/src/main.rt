@@ -8,59 +8,44 @@
 #![tactic(auto)]
 
 mod answers;
-mod slices;
 
-use cases::lines::line_end;
-use cases::print;
-use cases::sources::{count_of, expand, find};
-use slices::replay;
-use std::env::FillError;
-use std::io::Eprint;
-use std::rt::{Env, Files};
+use answers::{print_answer, print_out};
+use cases::lent::{GUARD_BYTE, Marks, lend};
+use cases::replay::replay;
+use cases::sources::{count_of, expand};
+use cases::sums::Sums;
+use std::io;
 
-fn print_case(line: &[u8]) {
-    print(line);
-    print(b" = ");
-    if line.len() < 4 {
-        print(b"no case\n");
-        return;
-    }
-    let end = find(line, 4, b' ');
-    let room = count_of(&line[4..end]);
-    if end == line.len() {
-        print(b"no case\n");
-        return;
-    }
+// At most 65,600 bytes are lent for the text.
+fn print_case(rt: &impl Print, marks: Marks, room: usize, spelt: &[u8]) -> io::Result<()> {
     let mut space = [0; 65600];
-    let n = expand(&line[end + 1..], &mut space);
-    replay(&space[..n], line[0], line[1], line[2], room);
-    print(b"\n");
+    let n = expand(spelt, &mut space);
+    let src = &space[..n];
+    let mut most = [GUARD_BYTE; 65600];
+    let room = room.min(most.len());
+    let out = &mut most[..room];
+    lend(n, marks, |tokens, text, tree| {
+        print_answer(rt, writer::write_source(src, tokens, text, tree, out))?;
+        print!(rt; "{}{}{}", Sums::of(tokens), Sums::of(text), Sums::of(tree))?;
+        print_out(rt, out)
+    })
 }
 
-// Each line of text, the last with or without its line feed.
-fn print_cases(text: &[u8]) {
-    let mut at: usize = 0;
-    while at < text.len() {
-        let end = line_end(text, at);
-        print_case(&text[at..end]);
-        at = end + 1;
-    }
+fn print_result(rt: &impl Print, line: &[u8]) -> io::Result<()> {
+    let [a, b, c, _, rest @ ..] = line else {
+        return print!(rt; "no case");
+    };
+    let Some(end) = rest.iter().position(|x| *x == b' ') else {
+        return print!(rt; "no case");
+    };
+    let marks = Marks {
+        tokens: *a,
+        text: *b,
+        tree: *c,
+    };
+    print_case(rt, marks, count_of(&rest[..end]), &rest[end + 1..])
 }
 
-fn print_file<R: Files + Eprint>(rt: &R, path: &[u8]) {
-    let mut buffer = io::large_buffer();
-    let n = cases::lines::read(rt, path, &mut buffer);
-    print_cases(&buffer[..n]);
-}
-
-// An argument that is too long names no file.
 fn main(rt: HostRuntime) {
-    for i in 1..usize::MAX {
-        let mut path = io::buffer();
-        match rt.arg(i, &mut path) {
-            Ok(n) => print_file(&rt, &path[..n]),
-            Err(FillError::TooLong) => print_file(&rt, b""),
-            Err(FillError::NotPresent) => return,
-        }
-    }
+    replay(&rt, |line| print_result(&rt, line));
 }

@@ -5,4 +5,4 @@ use Rattle.expr_cases.proofs.answers.print_tree.Goals as goal
 
 pub comma_list-requires : goal.comma_list-requires
 unfolding text_before
-comma_list-requires c = search rules
+comma_list-requires g c = search rules

@@ -3,5 +3,5 @@ use Rattle.std.proofs.Common.{arith}
 use Rattle.strings.proofs.Bounds.{no_longer}
 use Rattle.leaf_cases.proofs.answers.print_string.Goals as goal
 
-pub slice_bounds-print_bytes-end : goal.slice_bounds-print_bytes-end
-slice_bounds-print_bytes-end c = omega (arith, no_longer c.args.s.now)
+pub slice_bounds-decoded-end : goal.slice_bounds-decoded-end
+slice_bounds-decoded-end g c = omega (arith, no_longer c.args.s.now)
