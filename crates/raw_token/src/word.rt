@@ -13,11 +13,16 @@ pub(crate) struct Spelling {
     pub number: u64,
 }
 
-// Whether an ASCII character continues a name: a letter, an underscore or a digit.
+// Whether an ASCII character continues a name: a letter, an underscore or a digit. Small letters, the most frequent, are asked first: one match on all of them is
+// twice the tests for such a letter.
 fn ascii_continues(b: u8) -> bool
     ensures { result ≡ ascii_continues_lem b }
 {
-    matches!(b, b'a'..=b'z' | b'A'..=b'Z' | b'_' | b'0'..=b'9')
+    if matches!(b, b'a'..=b'z') {
+        true
+    } else {
+        matches!(b, b'A'..=b'Z') | (b == b'_') | source::is_digit(b)
+    }
 }
 
 // The ASCII characters from `at` on that continue a name.
