@@ -15,9 +15,14 @@ fn digit(b: u8) -> usize
 
 // The number that decimal digits spell, of which it has enough once it is over 99,999.
 pub fn count_of(digits: &[u8]) -> usize {
-    digits
-        .iter()
-        .fold(0, |x, b| if 99999 < x { x } else { 10 * x + digit(*b) })
+    let mut x = 0;
+    for b in digits {
+        if 99999 < x {
+            return x;
+        }
+        x = 10 * x + digit(*b);
+    }
+    x
 }
 
 // Puts the bytes of s at the start of out, as many as there is room for, and answers how many.
@@ -34,7 +39,12 @@ fn put_row(s: &[u8], times: usize, out: &mut [u8]) -> usize
 {
     let mut n = 0;
     for _ in 0..times {
-        n += put(s, &mut out[n..]);
+        let count = put(s, &mut out[n..]);
+        // no room is left, or s is empty
+        if count == 0 {
+            break;
+        }
+        n += count;
     }
     n
 }
