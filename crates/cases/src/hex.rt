@@ -5,7 +5,7 @@ ghost use Rattle.io.specs.Counts.{IsPrefixLen};
 ghost use Rattle.cases.specs.Hex.{nibble_of, unhexed};
 
 use std::fmt;
-use std::fmt::{Display, Formatter};
+use std::fmt::{Display, Formatter, InlineText};
 
 // A hexadecimal digit's value; any other byte counts as 0.
 fn nibble(b: u8) -> u8
@@ -46,7 +46,8 @@ pub struct Hex<'a>(pub &'a [u8]);
 impl Display for Hex<'_> {
     fn fmt<W: fmt::Write>(&self, f: &mut Formatter<W>) -> fmt::Result {
         for b in self.0 {
-            write!(f, "{b:02x}")?;
+            let digits = InlineText::<2>::of(format_args!("{b:02x}"));
+            f.write_str(digits.as_str())?;
         }
         Ok(())
     }

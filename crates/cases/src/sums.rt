@@ -52,6 +52,7 @@ impl Display for Sums {
             first,
             second,
         } = self;
-        write!(f, " | {count} {first} {second}")
+        write!(f, " |")?;
+        write!(f, " {count} {first} {second}")
     }
 }

@@ -28,7 +28,8 @@ fn print_words(rt: &impl Print, s: &[u32], range: Range<usize>) -> io::Result<()
 fn print_nodes(rt: &impl Print, tree: &[u32], s: State) -> io::Result<()> {
     let TokenNumber(at) = s.at;
     let nodes = s.nodes;
-    print!(rt; "ok {at} {nodes} {}", s.opened)?;
+    print!(rt; "ok")?;
+    print!(rt; " {at} {nodes} {}", s.opened)?;
     print_words(rt, tree, 8..8 * (nodes as usize) + 8)
 }
 
@@ -36,7 +37,8 @@ fn print_nodes(rt: &impl Print, tree: &[u32], s: State) -> io::Result<()> {
 fn print_refusal(rt: &impl Print, toks: &[u32], number: u32, s: State) -> io::Result<()> {
     let TokenNumber(at) = s.at;
     let i = 3 * (at as usize) + 1;
-    print!(rt; "no {number}")?;
+    print!(rt; "no")?;
+    print!(rt; " {number}")?;
     print_words(rt, toks, i..i + 1)?;
     print!(rt; " {}", s.opened)
 }
@@ -69,6 +71,9 @@ pub fn print_answer(rt: &impl Print, src: &[u8]) -> io::Result<()> {
             let words = 3 * (count + 1);
             print_tree(rt, src, &tokens[..words])
         }
-        Err(Refusal { reason, place }) => print!(rt; "no {} {place}", reason.number()),
+        Err(Refusal { reason, place }) => {
+            print!(rt; "no")?;
+            print!(rt; " {} {place}", reason.number())
+        }
     }
 }

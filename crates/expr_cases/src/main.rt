@@ -25,5 +25,5 @@ fn print_result(rt: &impl Print, line: &[u8]) -> io::Result<()> {
 fn main(rt: HostRuntime) {
     let mut text = [0; 65536];
     let n = read_full(&mut rt.stdin(), &mut text);
-    replay_text(&rt, &text[..n], |line| print_result(&rt, line));
+    replay_text(&text[..n], |out, line| print_result(out, line));
 }

@@ -4,6 +4,7 @@ ghost use Rattle.std.specs.Prelude.{◌≤◌, length};
 use cases::hex::Hex;
 use numbers::halves::Halves;
 use raw_token::RawToken;
+use std::fmt::InlineText;
 use std::io;
 use utf8::character::Character;
 
@@ -12,7 +13,9 @@ const TEXT_AT: usize = 1;
 
 fn print_halves(rt: &impl Print, h: Halves) -> io::Result<()> {
     let Halves { high, low } = h;
-    print!(rt; "{high:08x}{low:08x}")
+    let high = InlineText::<8>::of(format_args!("{high:08x}"));
+    let low = InlineText::<8>::of(format_args!("{low:08x}"));
+    print!(rt; "{}{}", high.as_str(), low.as_str())
 }
 
 pub fn print_int(rt: &impl Print, s: &[u8]) -> io::Result<()> {

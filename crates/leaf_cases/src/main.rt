@@ -17,6 +17,7 @@ use answers::{print_characters, print_float, print_int, print_string, print_toke
 use cases::hex::unhex;
 use cases::replay::replay;
 use std::io;
+use std::io::ErrorKind;
 
 // The result of a case whose bytes are written in hexadecimal.
 fn print_bytes_result(rt: &impl Print, letter: u8, hex: &[u8]) -> io::Result<()> {
@@ -37,10 +38,10 @@ fn print_result(rt: &impl Print, line: &[u8]) -> io::Result<()> {
         [b'i', _, text @ ..] => print_int(rt, text),
         [b'f', _, text @ ..] => print_float(rt, text),
         [letter, _, hex @ ..] => print_bytes_result(rt, *letter, hex),
-        _ => print!(rt; "no case"),
+        _ => Err(ErrorKind::InvalidInput.into()),
     }
 }
 
 fn main(rt: HostRuntime) {
-    replay(&rt, |line| print_result(&rt, line));
+    replay(&rt, |out, line| print_result(out, line));
 }

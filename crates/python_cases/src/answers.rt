@@ -9,9 +9,10 @@ const LONGEST: usize = 1023;
 const NONE: u32 = 4294967295;
 
 fn print_word(rt: &impl Print, w: u32) -> io::Result<()> {
+    print!(rt; " ")?;
     match w {
-        NONE => print!(rt; " -"),
-        _ => print!(rt; " {w}"),
+        NONE => print!(rt; "-"),
+        _ => print!(rt; "{w}"),
     }
 }
 
@@ -31,10 +32,11 @@ fn print_records(rt: &impl Print, tree: &[u32], to: usize) -> io::Result<()> {
 
 // So many bytes of the text, none as a dash.
 fn print_text(rt: &impl Print, text: &[u8], count: usize) -> io::Result<()> {
+    print!(rt; " ")?;
     match text.get(..count) {
-        Some([]) => print!(rt; " -"),
-        Some(s) => print!(rt; " {}", Hex(s)),
-        None => print!(rt; " end"),
+        Some([]) => print!(rt; "-"),
+        Some(s) => print!(rt; "{}", Hex(s)),
+        None => print!(rt; "end"),
     }
 }
 

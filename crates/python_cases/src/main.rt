@@ -23,5 +23,5 @@ fn print_result(rt: &impl Print, line: &[u8]) -> io::Result<()> {
 }
 
 fn main(rt: HostRuntime) {
-    replay(&rt, |line| print_result(&rt, line));
+    replay(&rt, |out, line| print_result(out, line));
 }

@@ -14,7 +14,10 @@ pub fn print_answer(rt: &impl Print, a: Answer) -> io::Result<()> {
                 text,
                 openings,
             },
-        ) => print!(rt; "0 0 {tokens} {nodes} {text} {openings} {nodes}"),
+        ) => {
+            print!(rt; "0 0")?;
+            print!(rt; " {tokens} {nodes} {text} {openings} {nodes}")
+        }
         Err(
             Stop {
                 refusal,
@@ -24,9 +27,10 @@ pub fn print_answer(rt: &impl Print, a: Answer) -> io::Result<()> {
             },
         ) => {
             let number = refusal.reason.number();
+            // the zeros are numbers, each written by itself
             print!(rt;
-                "{number} {} {tokens} 0 0 {openings} {nodes}",
-                refusal.place
+                "{number} {} {tokens} {} {} {openings} {nodes}",
+                refusal.place, 0, 0
             )
         }
     }

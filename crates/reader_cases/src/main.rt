@@ -15,10 +15,11 @@ use cases::lent::{Marks, SMALL, lend};
 use cases::replay::replay;
 use cases::sources::expand;
 use std::io;
+use std::io::ErrorKind;
 
 fn print_result(rt: &impl Print, line: &[u8]) -> io::Result<()> {
     let [a, b, c, _, spelt @ ..] = line else {
-        return print!(rt; "no case");
+        return Err(ErrorKind::InvalidInput.into());
     };
     let mut space = [0; 65600];
     let n = expand(spelt, &mut space);
@@ -39,5 +40,5 @@ fn print_result(rt: &impl Print, line: &[u8]) -> io::Result<()> {
 }
 
 fn main(rt: HostRuntime) {
-    replay(&rt, |line| print_result(&rt, line));
+    replay(&rt, |out, line| print_result(out, line));
 }

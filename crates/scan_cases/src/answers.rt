@@ -59,7 +59,8 @@ fn print_tokens(
     let Some(decoded) = text.get(..used) else {
         return print!(rt; "too much text");
     };
-    print!(rt; "ok {count} ")?;
+    print!(rt; "ok")?;
+    print!(rt; " {count} ")?;
     if used == 0 {
         print!(rt; "-")?;
     }
@@ -81,7 +82,8 @@ pub fn print_answer(rt: &impl Print, src: &[u8]) -> io::Result<()> {
     match lexer::scan(src, &mut words, &mut text) {
         Ok(Scanned { count, text: used }) => print_tokens(rt, n, &words, &text, count, used),
         Err(Refusal { reason, place }) => {
-            print!(rt; "no {} {place}", reason.number())?;
+            print!(rt; "no")?;
+            print!(rt; " {} {place}", reason.number())?;
             print_rest(rt, n, &words, &text, 0, 0)
         }
     }

@@ -22,6 +22,6 @@ fn print_result(rt: &impl Print, line: &[u8]) -> io::Result<()> {
 }
 
 fn main(rt: HostRuntime) {
-    replay_file(&rt, b"picked", |line| print_result(&rt, line));
-    replay_file(&rt, b"generated", |line| print_result(&rt, line));
+    replay_file(&rt, b"picked", |out, line| print_result(out, line));
+    replay_file(&rt, b"generated", |out, line| print_result(out, line));
 }

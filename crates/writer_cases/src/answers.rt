@@ -16,7 +16,7 @@ fn print_read(rt: &impl Print, a: reader::Answer, accepted: u32) -> io::Result<(
                 text,
                 openings,
             },
-        ) => print!(rt; "{accepted} 0 {tokens} {nodes} {text} {openings}"),
+        ) => print!(rt; "{accepted} {} {tokens} {nodes} {text} {openings}", 0),
         Err(
             Stop {
                 refusal,
@@ -26,7 +26,11 @@ fn print_read(rt: &impl Print, a: reader::Answer, accepted: u32) -> io::Result<(
             },
         ) => {
             let number = refusal.reason.number();
-            print!(rt; "{number} {} {tokens} 0 0 {openings}", refusal.place)
+            // the zeros are numbers, each written by itself
+            print!(rt;
+                "{number} {} {tokens} {} {} {openings}",
+                refusal.place, 0, 0
+            )
         }
     }
 }

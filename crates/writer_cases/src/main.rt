@@ -15,6 +15,7 @@ use cases::replay::replay;
 use cases::sources::{count_of, expand};
 use cases::sums::Sums;
 use std::io;
+use std::io::ErrorKind;
 
 // At most 65,600 bytes are lent for the text.
 fn print_case(rt: &impl Print, marks: Marks, room: usize, spelt: &[u8]) -> io::Result<()> {
@@ -33,10 +34,10 @@ fn print_case(rt: &impl Print, marks: Marks, room: usize, spelt: &[u8]) -> io::R
 
 fn print_result(rt: &impl Print, line: &[u8]) -> io::Result<()> {
     let [a, b, c, _, rest @ ..] = line else {
-        return print!(rt; "no case");
+        return Err(ErrorKind::InvalidInput.into());
     };
     let Some(end) = rest.iter().position(|x| *x == b' ') else {
-        return print!(rt; "no case");
+        return Err(ErrorKind::InvalidInput.into());
     };
     let marks = Marks {
         tokens: *a,
@@ -47,5 +48,5 @@ fn print_result(rt: &impl Print, line: &[u8]) -> io::Result<()> {
 }
 
 fn main(rt: HostRuntime) {
-    replay(&rt, |line| print_result(&rt, line));
+    replay(&rt, |out, line| print_result(out, line));
 }
