@@ -1,11 +1,10 @@
 -- Writes from the back.
 -- Assumes nothing.
 use mathlib.Core.Path.{◌≡◌, refl, sym, ap, ◌∙◌, subst}
-use mathlib.Core.List.{List, [], ◌∷◌, ◌++◌, append_assoc, append-nil}
-use Prim.Native.Nat.{ℕ, suc, ◌+◌, ◌-◌, ◌≤◌, ◌<◌}
+use mathlib.Core.List.{List, [], ◌++◌, append_assoc, append-nil}
+use Prim.Native.Nat.{ℕ, ◌-◌}
 use native.Mathlib.Omega.{arith}
-use lib.ListN.{length, set, drop, length-append, length-set}
-use lib.Seq.{drop-cons, get_or-set_same, drop-set-lt}
+use lib.ListN.{drop, length-append}
 use Rattle.writing.specs.Wrote.{Wrote}
 use Rattle.writing.specs.declared.back.Back.{Back}
 

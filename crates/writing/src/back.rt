@@ -1,28 +1,47 @@
 // A lent slice that is written from the back: one byte, a text, bytes of the source, and spaces.
-ghost use Rattle.std.specs.Prelude.{◌≡◌, List, [], ◌∷◌, ℕ, ◌+◌, ◌≤◌, length, min, replicate};
+ghost use Rattle.std.specs.Prelude.{◌≡◌, List, [], ◌∷◌, ℕ, ◌+◌, ◌≤◌, ◌<◌, length, replicate};
 ghost use Rattle.source.specs.Bytes.{part};
 
-use crate::front::{LONGEST, front};
+use crate::front::{front_of_any, room};
 
 // What is put stands before what was put earlier.
+#[derive(Drop)]
 pub struct Back<'a> {
     out: &'a mut [u8],
     // One more than the place of the byte written last, and 0 once there was no room: no byte is put then. An Option would be asked at each byte.
     at: usize,
-    ghost within: { at ≤ min (length out.now) 65536 + 1 },
+    ghost within: { at ≤ length out.now + 1 },
 }
 
 impl<'a> Back<'a> {
     ghost use Rattle.writing.specs.Wrote.{Wrote, Empty};
-    ghost use Rattle.writing.specs.Written.{Gives};
+    ghost use Rattle.writing.specs.Written.{room, Gives};
 
     // Nothing is written yet. The slice takes a text of its own length, or the longest.
     pub fn new(out: &'a mut [u8]) -> Back<'a>
         ensures empty { Empty result out.old }
         ensures same { result.out.ghost_name ≡ out.entry.ghost_name }
     {
-        let at = out.len().min(LONGEST) + 1;
+        let at = room(out.len()) + 1;
+        Back::at(out, at)
+    }
+
+    // Bytes are put before a place that the caller chooses, in a slice of any length. Let go without `to_front`, what was put stays where it is.
+    pub fn at(out: &'a mut [u8], at: usize) -> Back<'a>
+        requires { at ≤ length out.old + 1 }
+        ensures at { result.at ≡ at }
+        ensures holds { result.out.now ≡ out.old }
+        ensures same { result.out.ghost_name ≡ out.entry.ghost_name }
+    {
         Back { out, at }
+    }
+
+    // The place that the next byte is put before, as `at` takes it.
+    pub fn place(&self) -> usize
+        ensures { result ≡ self.now.at }
+    {
+        let Back { at, .. } = self;
+        *at
     }
 
     pub fn put(&mut self, b: u8)
@@ -75,9 +94,10 @@ impl<'a> Back<'a> {
 
     // The end: whatever text was written stands at the front, and zeros behind it; all is zero, and the answer none, where there was no room for it.
     pub fn to_front(self) -> Option<usize>
-        ensures { (t before : List ℕ) (start : Back) → Empty start before → Wrote t start self.entry → Gives t (length before) result self.exit.0.now }
+        ensures gives { (t before : List ℕ) (start : Back) → Empty start before → Wrote t start self.entry → Gives t (length before) result self.exit.0.now }
+        ensures none { room (length self.entry.out.now) + 1 < self.entry.at → (result ≡ None) × (self.exit.0.now ≡ replicate (length self.entry.out.now) 0) }
     {
         let Back { out, at } = self;
-        front(out, at)
+        front_of_any(out, at)
     }
 }

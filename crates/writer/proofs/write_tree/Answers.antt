@@ -19,7 +19,7 @@ returns-in-Some c =
     let p = some-program _ _ _ _ c.requires in
     let wrote = (c.put_program.ensures _ _ p.stands).wrote in
     let e = c.out-2-1.given.1.1 (sym (wrote.same ∙ c.new-back.ensures.same)) in
-    rw e (text_told a.src.now a.text.now a.tree.now a.nodes a.read a.out.now c.requires (sym c.any_hollow.ensures ∙ c.if-any_hollow.false) c.new-back.result c.put_program.new.back c.put_program.result c.new-back.ensures.empty c.put_program.ensures c.to_front.result c.to_front.new.self.0 c.to_front.ensures c.in-Some.is)
+    rw e (text_told a.src.now a.text.now a.tree.now a.nodes a.read a.out.now c.requires (sym c.any_hollow.ensures ∙ c.if-any_hollow.false) c.new-back.result c.put_program.new.back c.put_program.result c.new-back.ensures.empty c.put_program.ensures c.to_front.result c.to_front.new.self.0 c.to_front.ensures.gives c.in-Some.is)
 
 pub returns-in-None : goal.returns-in-None
 returns-in-None c =
@@ -27,4 +27,4 @@ returns-in-None c =
     let p = some-program _ _ _ _ c.requires in
     let wrote = (c.put_program.ensures _ _ p.stands).wrote in
     let e = c.out-2-1.given.1.1 (sym (wrote.same ∙ c.new-back.ensures.same)) in
-    rw e (full_told a.src.now a.text.now a.tree.now a.nodes a.read a.out.now c.requires (sym c.any_hollow.ensures ∙ c.if-any_hollow.false) c.new-back.result c.put_program.new.back c.put_program.result c.new-back.ensures.empty c.put_program.ensures c.to_front.result c.to_front.new.self.0 c.to_front.ensures c.in-None.is)
+    rw e (full_told a.src.now a.text.now a.tree.now a.nodes a.read a.out.now c.requires (sym c.any_hollow.ensures ∙ c.if-any_hollow.false) c.new-back.result c.put_program.new.back c.put_program.result c.new-back.ensures.empty c.put_program.ensures c.to_front.result c.to_front.new.self.0 c.to_front.ensures.gives c.in-None.is)
