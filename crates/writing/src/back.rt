@@ -4,6 +4,16 @@ ghost use Rattle.source.specs.Bytes.{part};
 
 use crate::front::{front_of_any, room};
 
+// A text, byte by byte: the library's `copy_from_slice` would be a call of memmove, which whoever links the archive would have to have.
+fn copy(out: &mut [u8], text: &[u8])
+    requires { length out.old ≡ length text.now }
+    ensures { out.new ≡ text.now }
+{
+    for k in 0..text.len() {
+        out[k] = text[k];
+    }
+}
+
 // What is put stands before what was put earlier.
 #[derive(Drop)]
 pub struct Back<'a> {
@@ -67,7 +77,7 @@ impl<'a> Back<'a> {
         }
         let first = last - text.len();
         self.at = first;
-        self.out[first - 1..last - 1].copy_from_slice(text);
+        copy(&mut self.out[first - 1..last - 1], text);
     }
 
     // The bytes of the source between two places: a name, or a Float as it is spelled.
