@@ -45,7 +45,8 @@ pub fn put_lines(
     }
     let from = first as usize;
     let mut e = end;
-    loop {
+    // The label is the loop's name in the proof.
+    'members: loop {
         let last = e - 1;
         e = put_line(src, text, tree, back, e, depth);
         if last == from {

@@ -144,14 +144,14 @@ pub put_lines-returns-then-first-eq-NONE_NODE : goal.put_lines-returns-then-firs
 put_lines-returns-then-first-eq-NONE_NODE t c =
     none_put c.args.depth _ _ _ c.if-first-eq-NONE_NODE.true
 
-pub put_lines-loop-end-init : goal.put_lines-loop-end-init
-put_lines-loop-end-init t c =
+pub put_lines-members-init : goal.put_lines-members-init
+put_lines-members-init t c =
     (omega arith, λ i n b l s h. of_all c.args.depth _ _ _ _ s h (λ j. c.if-first-eq-NONE_NODE.false j))
 
 pub put_lines-overflow_sub-last : goal.put_lines-overflow_sub-last
 put_lines-overflow_sub-last t c =
     let some = c.requires.some_lines in
-    let g = c.loop-end.invariant.1 _ some.line _ _ some.stands some.head in
+    let g = c.members.invariant.1 _ some.line _ _ some.stands some.head in
     let m = some-line c.args.depth _ _ _ some.line g.stands in
     let h = m.there in
     omega arith
@@ -159,31 +159,31 @@ put_lines-overflow_sub-last t c =
 pub put_lines-put_line-e-requires : goal.put_lines-put_line-e-requires
 put_lines-put_line-e-requires t c =
     let some = c.requires.some_lines in
-    let g = c.loop-end.invariant.1 _ some.line _ _ some.stands some.head in
+    let g = c.members.invariant.1 _ some.line _ _ some.stands some.head in
     let m = some-line c.args.depth _ _ _ some.line g.stands in
     let h = m.there in
     (omega arith, (m, omega arith))
 
 pub put_lines-returns-then-last-from : goal.put_lines-returns-then-last-from
 put_lines-returns-then-last-from t c =
-    λ i n b l s h. let g = c.loop-end.invariant.1 i n b l s h in of_ends c.args.depth _ _ _ g (member_ends c.args.depth _ _ _ _ _ c.put_line-e.ensures n g.stands g.head c.if-last-from.true)
+    λ i n b l s h. let g = c.members.invariant.1 i n b l s h in of_ends c.args.depth _ _ _ g (member_ends c.args.depth _ _ _ _ _ c.put_line-e.ensures n g.stands g.head c.if-last-from.true)
 
-pub put_lines-loop-end-smaller : goal.put_lines-loop-end-smaller
-put_lines-loop-end-smaller t c =
+pub put_lines-members-smaller : goal.put_lines-members-smaller
+put_lines-members-smaller t c =
     let some = c.requires.some_lines in
-    let g = c.loop-end.invariant.1 _ some.line _ _ some.stands some.head in
+    let g = c.members.invariant.1 _ some.line _ _ some.stands some.head in
     let m = some-line c.args.depth _ _ _ some.line g.stands in
     let h = m.there in
     let p = c.put_line-e.ensures _ m.line _ _ m.stands m.there in
     let f = p.first in
     omega arith
 
-pub put_lines-loop-end-preserved : goal.put_lines-loop-end-preserved
-put_lines-loop-end-preserved t c =
+pub put_lines-members-preserved : goal.put_lines-members-preserved
+put_lines-members-preserved t c =
     let some = c.requires.some_lines in
-    let g = c.loop-end.invariant.1 _ some.line _ _ some.stands some.head in
+    let g = c.members.invariant.1 _ some.line _ _ some.stands some.head in
     let m = some-line c.args.depth _ _ _ some.line g.stands in
     let h = m.there in
     let p = c.put_line-e.ensures _ m.line _ _ m.stands m.there in
     let f = p.first in
-    (omega arith, λ i n b l s k. let o = c.loop-end.invariant.1 i n b l s k in of_goes c.args.depth _ _ _ o (member_goes c.args.depth _ _ _ _ _ c.put_line-e.ensures n o.stands o.head c.if-last-from.false))
+    (omega arith, λ i n b l s k. let o = c.members.invariant.1 i n b l s k in of_goes c.args.depth _ _ _ o (member_goes c.args.depth _ _ _ _ _ c.put_line-e.ensures n o.stands o.head c.if-last-from.false))

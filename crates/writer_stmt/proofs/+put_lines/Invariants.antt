@@ -24,8 +24,8 @@ decreases-put_line l = 4 * l.end + 1
 abbrev pub decreases-put_lines : goal.decreases-put_lines
 decreases-put_lines l = 4 * l.end + 2
 
-abbrev pub invariant-put_lines-loop-end : goal.invariant-put_lines-loop-end
-invariant-put_lines-loop-end l = (l.e ≤ l.end) × ((i : Item) → Line (a i) → (b : ℕ) (ls : Tree (list i)) → Stands l.src l.text l.tree b ls l.end → l.first ≡ head_b b (plant ls) → LeftOf l.depth i l.src l.text l.tree (standard.text l.depth X ls) b l.first l.initial.back l.back l.e)
+abbrev pub invariant-put_lines-members : goal.invariant-put_lines-members
+invariant-put_lines-members l = (l.e ≤ l.end) × ((i : Item) → Line (a i) → (b : ℕ) (ls : Tree (list i)) → Stands l.src l.text l.tree b ls l.end → l.first ≡ head_b b (plant ls) → LeftOf l.depth i l.src l.text l.tree (standard.text l.depth X ls) b l.first l.initial.back l.back l.e)
 
-abbrev pub decreases-put_lines-loop-end : goal.decreases-put_lines-loop-end
-decreases-put_lines-loop-end l = l.e
+abbrev pub decreases-put_lines-members : goal.decreases-put_lines-members
+decreases-put_lines-members l = l.e
