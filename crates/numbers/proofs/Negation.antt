@@ -56,20 +56,23 @@ capped t n = go (dec_le n 9223372036854775809)
     go (no h) = out t (min 9223372036854775809 n) (omega arith) ∙ sym (out t n (omega arith))
 
 -- the token s, whose digits stopped at n
+pub stopped : (s : List ℕ) (minus : Bool) (n : ℕ) → is_minus s ≡ minus → n ≡ min 9223372036854775809 (number 0 s) → in_range (signed minus n) ≡ integer_of s
+unfolding integer_of
+stopped s minus n hs hn =
+    ap (λ (k : ℕ). in_range (signed minus k)) hn
+    ∙ capped minus (number 0 s)
+    ∙ ap (λ (t : Bool). in_range (signed t (number 0 s))) (sym hs)
+
+-- an answer that is the value exactly where that fits
 module _ (s : List ℕ) (n : ℕ) (hn : n ≡ min 9223372036854775809 (number 0 s)) (r : Option ℤ) where
-  stopped : (minus : Bool) → is_minus s ≡ minus → SomeIff r (FitsSigned w64 (signed minus n)) (signed minus n) → r ≡ integer_of s
-  unfolding integer_of
-  stopped minus hs h =
-      given (signed minus n) r h
-      ∙ ap (λ (k : ℕ). in_range (signed minus k)) hn
-      ∙ capped minus (number 0 s)
-      ∙ ap (λ (t : Bool). in_range (signed t (number 0 s))) (sym hs)
+  answered : (minus : Bool) → is_minus s ≡ minus → SomeIff r (FitsSigned w64 (signed minus n)) (signed minus n) → r ≡ integer_of s
+  answered minus hs h = given (signed minus n) r h ∙ stopped s minus n hs hn
 
   pub minus_stopped : is_minus s ≡ true → SomeIff r (FitsSigned w64 (pos 0 -ℤ pos n)) (pos 0 -ℤ pos n) → r ≡ integer_of s
-  minus_stopped hs h = stopped true hs (rw (+ℤ_idl (neg_ℤ (pos n))) at h)
+  minus_stopped hs h = answered true hs (rw (+ℤ_idl (neg_ℤ (pos n))) at h)
 
   pub plain_stopped : is_minus s ≡ false → {E : Type 0} (t : Result ℤ E) → OkIff t (FitsSigned w64 (pos n)) (pos n) → r ≡ result_ok t → r ≡ integer_of s
-  plain_stopped hs t h e = stopped false hs (subst⁻¹ (λ (o : Option ℤ). SomeIff o (FitsSigned w64 (pos n)) (pos n)) e (go t h))
+  plain_stopped hs t h e = answered false hs (subst⁻¹ (λ (o : Option ℤ). SomeIff o (FitsSigned w64 (pos n)) (pos n)) e (go t h))
     where
       go : {E : Type 0} (t : Result ℤ E) → OkIff t (FitsSigned w64 (pos n)) (pos n) → SomeIff (result_ok t) (FitsSigned w64 (pos n)) (pos n)
       go (Ok x) h = h
