@@ -46,6 +46,7 @@ pub struct Hex<'a>(pub &'a [u8]);
 impl Display for Hex<'_> {
     fn fmt<W: fmt::Write>(&self, f: &mut Formatter<W>) -> fmt::Result {
         for b in self.0 {
+            // both digits in one write: a padded hole would be two
             let digits = InlineText::<2>::of(format_args!("{b:02x}"));
             f.write_str(digits.as_str())?;
         }

@@ -5,8 +5,9 @@ use std::fmt;
 use std::fmt::{Display, Formatter};
 use std::io::Result;
 
-// A file descriptor that is printed to without a buffer: each text between the holes of `print!` and each hole is a write of its own. One that fails
-// is lost and the next is tried, so nothing that prints by it gives up halfway, and what a full pipe still takes depends on where the texts end.
+// A file descriptor that is printed to without a buffer: each text between the holes of `print!`, and each text that a hole writes, is a write of its own. One
+// that fails is lost and the next is tried, so nothing that prints by it gives up halfway: Ok does not say that all was written. What a full pipe still takes
+// depends on where the texts end.
 #[derive(Clone, Copy)]
 pub struct Unbuffered(pub i32);
 

@@ -13,6 +13,7 @@ const TEXT_AT: usize = 1;
 
 fn print_halves(rt: &impl Print, h: Halves) -> io::Result<()> {
     let Halves { high, low } = h;
+    // the digits of a half in one write: a padded hole would be two
     let high = InlineText::<8>::of(format_args!("{high:08x}"));
     let low = InlineText::<8>::of(format_args!("{low:08x}"));
     print!(rt; "{}{}", high.as_str(), low.as_str())

@@ -102,7 +102,8 @@ impl<'a> Back<'a> {
         self.out[first - 1..last - 1].fill(b' ');
     }
 
-    // The end: whatever text was written stands at the front, and zeros behind it; all is zero, and the answer none, where there was no room for it.
+    // The end: whatever text was written before `room + 1` stands at the front, and zeros behind it; all is zero, and the answer none, where there was no room for it,
+    // and where it begins past that.
     pub fn to_front(self) -> Option<usize>
         ensures gives { (t before : List ℕ) (start : Back) → Empty start before → Wrote t start self.entry → Gives t (length before) result self.exit.0.now }
         ensures none { room (length self.entry.out.now) + 1 < self.entry.at → (result ≡ None) × (self.exit.0.now ≡ replicate (length self.entry.out.now) 0) }

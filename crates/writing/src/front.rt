@@ -13,7 +13,7 @@ pub fn room(n: usize) -> usize
     n.min(LONGEST)
 }
 
-// There was no room.
+// No text: there was no room, or none ends where the longest one may.
 fn none(out: &mut [u8]) -> Option<usize>
     ensures is { result ≡ None }
     ensures zeroed { out.new ≡ replicate (length out.old) 0 }
@@ -37,7 +37,7 @@ fn front(out: &mut [u8], at: usize) -> Option<usize>
     Some(m)
 }
 
-// The same before any place: what begins behind the end of the longest text is none that ends there.
+// The same before any place; none where `at` lies past the end of the longest text.
 pub fn front_of_any(out: &mut [u8], at: usize) -> Option<usize>
     ensures gives { (t before : List ℕ) (start : ℕ) → start ≡ room (length before) + 1 → WroteAt t before start out.old at → Gives t (length before) result out.new }
     ensures none { room (length out.old) + 1 < at → (result ≡ None) × (out.new ≡ replicate (length out.old) 0) }
