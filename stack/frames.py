@@ -6,8 +6,8 @@
 
 objdump shows each function of the archive. Its instructions are walked along all jumps, with how deep the stack is before each; what is below the stack
 pointer and used (the red zone) counts too. The sum is that of the longest chain of calls. At most 64 E and Block are open at once:
-- in the reader one more is refused by its first test: so of the calls that are open, no more than 65 are of rule_e and rule_block, and the last of these
-  calls nothing;
+- in the reader one more Block is refused by the first test of rule_block, and one more E before lambda_or_o is called: so of the calls that are open, no more
+  than 65 are of these two, and the last of so many calls nothing;
 - in the writer, of an accepted script, put_expr calls itself where an E is opened, or for a rule further behind: seven calls for each E at most, one for
   the E, five for what stands right of `or`, `and`, a comparison, + and *, and one for what stands behind signs. put_line calls itself where a Block is
   opened, and once more for the Elif, Else or Method that has it.
@@ -25,7 +25,7 @@ import sys
 from functools import lru_cache
 
 ROOT = os.path.dirname(os.path.dirname(os.path.abspath(__file__)))
-LEVELS, DEEPEST = {"expr::rule_e", "stmt::rule_block"}, 64
+LEVELS, DEEPEST = {"expr::lambda_or_o", "stmt::rule_block"}, 64
 # The writer's: how many calls of it are open for an E, or for a Block. The statements of the whole script are in no Block, and have as many.
 EXPR, LINE = "writer_expr::put_expr", "writer_stmt::put_line"
 SHARES = {EXPR: 7, LINE: 2}

@@ -14,7 +14,7 @@ ghost use Rattle.token.specs.Code.{Eof, String, Dot, LParen, RParen, LBracket};
 ghost use Rattle.pyhyeon.specs.Machine.{token, node, growing, list};
 ghost use Rattle.pyhyeon.specs.Rules.{E, O, C, S, P, U, F, entry, postfix};
 ghost use Rattle.pyhyeon.specs.Rules as rules;
-ghost use Rattle.pyhyeon.specs.Tables.{primary, pairs_on, set_on};
+ghost use Rattle.pyhyeon.specs.Tables.{joined, primary, pairs_on, set_on};
 ghost use Rattle.pyhyeon.specs.Tables as tables;
 ghost use Rattle.lookahead.specs.Tokens.{symbol_at};
 ghost use Rattle.leaves.specs.Contract.{a_node, a_list, Rules, Parts, Lists, Ready, Begun};
@@ -29,28 +29,39 @@ pub use comma::comma_list;
 use leaves::{Added, Parsed, Refused, State};
 use levels::{Chain, Left, Level};
 pub use parameters::names;
-use source::Reason;
 use token::{NodeNumber, TokenNumber};
 
-// E: lambda names : E, or O. Room is asked for before the opening counts.
+// E: lambda names : E, or O. Room is asked for before the opening counts. The compiler puts this into the callers, which have the state's words at hand: a
+// function that may hand back as a whole the state that it was passed loads it as one vector, and waits for the stores of its words (docs/PERFORMANCE.md).
 #[cycle(expr)]
+#[inline(always)]
 pub fn rule_e(src: &[u8], toks: &[u32], tree: &mut [u32], left: u32, s: State) -> Parsed
     requires ready { Ready src.now toks.now tree.old s 3 }
     requires begun { Begun src.now toks.now s E }
     ensures { Rules src.now toks.now left E a_node s tree.old result tree.new }
 {
     if left == 0 {
-        return Err(Refused(Reason::TooDeep, s));
+        return Err(Refused::TooDeep(s));
     }
-    let room = left - 1;
     let up = State {
         opened: s.opened + 1,
         ..s
     };
+    lambda_or_o(src, toks, tree, left - 1, up)
+}
+
+// What an E is, once its opening counts. The compiler makes one function of it and the rules from O to F.
+#[cycle(expr)]
+#[inline(never)]
+fn lambda_or_o(src: &[u8], toks: &[u32], tree: &mut [u32], left: u32, s: State) -> Parsed
+    requires ready { Ready src.now toks.now tree.old s 4 }
+    requires begun { Begun src.now toks.now s E }
+    ensures { Parts src.now toks.now left (joined E) [] a_node s tree.old result tree.new }
+{
     if lookahead::is_symbol(lookahead::symbol_at(src, toks, s.at), token::LAMBDA) {
-        lambda(src, toks, tree, room, s.at, leaves::past(up))
+        lambda(src, toks, tree, left, s.at, leaves::past(s))
     } else {
-        rule_o(src, toks, tree, room, up)
+        rule_o(src, toks, tree, left, s)
     }
 }
 
@@ -63,7 +74,7 @@ pub fn enter(src: &[u8], toks: &[u32], tree: &mut [u32], left: u32, s: State) ->
     if lookahead::begins_e(lookahead::symbol_at(src, toks, s.at)) {
         rule_e(src, toks, tree, left, s)
     } else {
-        Err(Refused(Reason::Missing, s))
+        Err(Refused::Missing(s))
     }
 }
 
@@ -85,7 +96,7 @@ fn lambda(
     if lookahead::is_symbol(lookahead::symbol_at(src, toks, after.at), token::COLON) {
         body(src, toks, tree, left, opener, first, leaves::past(after))
     } else {
-        Err(Refused(Reason::Misfit, after))
+        Err(Refused::Misfit(after))
     }
 }
 
@@ -109,8 +120,7 @@ fn body(
 }
 
 // What O, A, S and P are: operands of a rule by the operators of a level, grouped left. It is a text and no function, so that each of the four has a loop of its
-// own, which the compiler puts into the others': one function over the level would be called once more for each of them at every operand, and its frames do not
-// fit into the stack that is promised where parentheses nest (docs/PERFORMANCE.md).
+// own, which the compiler puts into the others': one function over the level would be called once more for each of them at every operand (docs/PERFORMANCE.md).
 macro_rules! grouped {
     ($operand:ident, $level:expr, $src:ident, $toks:ident, $tree:ident, $left:ident, $s:ident) => {{
         let mut st = State {
@@ -134,6 +144,7 @@ macro_rules! grouped {
 
 // O: A by `or`.
 #[cycle(expr)]
+#[inline(always)]
 fn rule_o(src: &[u8], toks: &[u32], tree: &mut [u32], left: u32, s: State) -> Parsed
     requires ready { Ready src.now toks.now tree.old s 4 }
     requires begun { Begun src.now toks.now s O }
@@ -144,6 +155,7 @@ fn rule_o(src: &[u8], toks: &[u32], tree: &mut [u32], left: u32, s: State) -> Pa
 
 // A: C by `and`.
 #[cycle(expr)]
+#[inline(always)]
 fn rule_a(src: &[u8], toks: &[u32], tree: &mut [u32], left: u32, s: State) -> Parsed
     requires ready { Ready src.now toks.now tree.old s 5 }
     requires begun { Begun src.now toks.now s rules.A }
@@ -154,6 +166,7 @@ fn rule_a(src: &[u8], toks: &[u32], tree: &mut [u32], left: u32, s: State) -> Pa
 
 // C: S by comparisons. `a<b<c` is And(a<b, b<c), whose b is one node.
 #[cycle(expr)]
+#[inline(always)]
 fn rule_c(src: &[u8], toks: &[u32], tree: &mut [u32], left: u32, s: State) -> Parsed
     requires ready { Ready src.now toks.now tree.old s 6 }
     requires begun { Begun src.now toks.now s C }
@@ -179,6 +192,7 @@ fn rule_c(src: &[u8], toks: &[u32], tree: &mut [u32], left: u32, s: State) -> Pa
 
 // S: P by + -.
 #[cycle(expr)]
+#[inline(always)]
 fn rule_s(src: &[u8], toks: &[u32], tree: &mut [u32], left: u32, s: State) -> Parsed
     requires ready { Ready src.now toks.now tree.old s 7 }
     requires begun { Begun src.now toks.now s S }
@@ -189,6 +203,7 @@ fn rule_s(src: &[u8], toks: &[u32], tree: &mut [u32], left: u32, s: State) -> Pa
 
 // P: U by * // / %.
 #[cycle(expr)]
+#[inline(always)]
 fn rule_p(src: &[u8], toks: &[u32], tree: &mut [u32], left: u32, s: State) -> Parsed
     requires ready { Ready src.now toks.now tree.old s 8 }
     requires begun { Begun src.now toks.now s P }
@@ -199,6 +214,7 @@ fn rule_p(src: &[u8], toks: &[u32], tree: &mut [u32], left: u32, s: State) -> Pa
 
 // U: any of not - +, then F.
 #[cycle(expr)]
+#[inline(always)]
 fn rule_u(src: &[u8], toks: &[u32], tree: &mut [u32], left: u32, s: State) -> Parsed
     requires ready { Ready src.now toks.now tree.old s 9 }
     requires begun { Begun src.now toks.now s U }
@@ -212,7 +228,7 @@ fn rule_u(src: &[u8], toks: &[u32], tree: &mut [u32], left: u32, s: State) -> Pa
         ..s
     };
     if !lookahead::behind_signs(src, toks, first, end) {
-        return Err(Refused(Reason::Missing, on));
+        return Err(Refused::Missing(on));
     }
     let Added(n, after) = rule_f(src, toks, tree, left, on)?;
     Ok(expr_leaves::wrap(toks, tree, first, end, n, after))
@@ -220,6 +236,7 @@ fn rule_u(src: &[u8], toks: &[u32], tree: &mut [u32], left: u32, s: State) -> Pa
 
 // F: a primary, then .name (list) [E] repeated.
 #[cycle(expr)]
+#[inline(always)]
 fn rule_f(src: &[u8], toks: &[u32], tree: &mut [u32], left: u32, s: State) -> Parsed
     requires ready { Ready src.now toks.now tree.old s 10 }
     requires begun { Begun src.now toks.now s F }
@@ -321,7 +338,7 @@ fn shut(
         let on = leaves::past(s);
         Ok(expr_leaves::put_enclosed(toks, tree, kind, opener, first, on))
     } else {
-        Err(Refused(Reason::Misfit, s))
+        Err(Refused::Misfit(s))
     }
 }
 
@@ -393,7 +410,7 @@ fn braces(
         let Added(n, after) = rule_e(src, toks, tree, left, s)?;
         brace(src, toks, tree, left, opener, n, after)
     } else {
-        Err(Refused(Reason::Misfit, s))
+        Err(Refused::Misfit(s))
     }
 }
 
@@ -501,7 +518,7 @@ fn item(src: &[u8], toks: &[u32], tree: &mut [u32], left: u32, s: State) -> Pars
     if lookahead::is_symbol(lookahead::symbol_at(src, toks, after.at), token::COLON) {
         value(src, toks, tree, left, key, leaves::past(after))
     } else {
-        Err(Refused(Reason::Misfit, after))
+        Err(Refused::Misfit(after))
     }
 }
 
@@ -540,7 +557,7 @@ fn round(
     } else if lookahead::is_symbol(symbol, token::RPAREN) {
         unit(src, toks, tree, opener, leaves::past(s))
     } else {
-        Err(Refused(Reason::Misfit, s))
+        Err(Refused::Misfit(s))
     }
 }
 
@@ -554,7 +571,7 @@ fn unit(src: &[u8], toks: &[u32], tree: &mut [u32], opener: TokenNumber, s: Stat
         let on = leaves::past(s);
         Ok(expr_leaves::put_empty(toks, tree, ast::TUPLE, opener, on))
     } else {
-        Err(Refused(Reason::Misfit, s))
+        Err(Refused::Misfit(s))
     }
 }
 
@@ -591,7 +608,7 @@ fn paren(
             s,
         )
     } else {
-        Err(Refused(Reason::Misfit, s))
+        Err(Refused::Misfit(s))
     }
 }
 
@@ -632,7 +649,7 @@ fn post(src: &[u8], toks: &[u32], tree: &mut [u32], left: u32, n: NodeNumber, s:
             if lookahead::is_name(lookahead::symbol_at(src, toks, on.at)) {
                 Ok(expr_leaves::put_attribute(toks, tree, n, leaves::past(on)))
             } else {
-                Err(Refused(Reason::Misfit, on))
+                Err(Refused::Misfit(on))
             }
         }
         token::LPAREN => args(src, toks, tree, left, n, on),
@@ -652,7 +669,7 @@ fn args(src: &[u8], toks: &[u32], tree: &mut [u32], left: u32, n: NodeNumber, s:
         let on = leaves::past(after);
         Ok(expr_leaves::put_apply(toks, tree, n, first, on))
     } else {
-        Err(Refused(Reason::Misfit, after))
+        Err(Refused::Misfit(after))
     }
 }
 
@@ -668,6 +685,6 @@ fn index(src: &[u8], toks: &[u32], tree: &mut [u32], left: u32, n: NodeNumber, s
         let on = leaves::past(after);
         Ok(expr_leaves::put_index(toks, tree, n, i, on))
     } else {
-        Err(Refused(Reason::Misfit, after))
+        Err(Refused::Misfit(after))
     }
 }

@@ -2,7 +2,7 @@
 ghost use Rattle.std.specs.Prelude.{◌≤◌, length};
 ghost use Rattle.lookahead.specs.Tokens.{Tokens};
 
-use leaves::{Added, Refused, State};
+use leaves::{Added, State};
 use lexer::Scanned;
 use source::Refusal;
 use std::io;
@@ -56,7 +56,7 @@ fn print_tree(rt: &impl Print, src: &[u8], toks: &[u32]) -> io::Result<()>
     };
     match expr::comma_list(src, toks, &mut tree, DEPTH, s) {
         Ok(Added(_, after)) => print_nodes(rt, &tree, after),
-        Err(Refused(reason, after)) => print_refusal(rt, toks, reason.number(), after),
+        Err(refused) => print_refusal(rt, toks, refused.reason().number(), refused.state()),
     }
 }
 

@@ -29,10 +29,10 @@ use Rattle.pyhyeon.proofs.Language.{language}
 use Rattle.leaves.specs.declared.State.{State}
 use Rattle.leaves.specs.declared.Added.{Added}
 use Rattle.leaves.specs.declared.Refused.{Refused}
+use Rattle.leaves.specs.declared.Refused.TheVariants as refused
 use Rattle.lookahead.specs.Tokens.{eof_at, text_before, tokens_of, symbol_at}
-use Rattle.source.specs.declared.refusal.Reason.{Reason}
-use Rattle.source.specs.declared.refusal.Reason.TheVariants as reason
-use Rattle.leaves.specs.Contract.{Parsed, read, refused, past, kept, state, asked_reason, Shape, a_node, Frame, Told, told_node, told_no, told_deep, Rules, Comes, Parts}
+use Rattle.leaves.specs.Contract.{Parsed, read, past, kept, state, stopped, asked_for, Shape, a_node, Frame, Told, told_node, told_no, told_deep, Rules, Comes, Parts}
+use Rattle.leaves.proofs.Asked.{asked_where}
 use Rattle.leaves.proofs.Frames.{frame_none, frame_then}
 use Rattle.lookahead.proofs.Tokens.{symbols_length, symbols_at, sees_at}
 
@@ -43,9 +43,6 @@ good r = tested pyhyeon r (language.passes r)
 -- answers that are one and the same hold the same
 pub read_same : {n m : NodeNumber} {s t : State} → read n s ≡ read m t → (n ≡ m) × (s ≡ t)
 read_same {n} {m} {s} {t} e = let d : ◌≡◌ {A = Added} (record { 0 = n; 1 = s }) (record { 0 = m; 1 = t }) = cc in (ap (λ (r : Added). r.0) d, ap (λ (r : Added). r.1) d)
-
-pub refused_same : {k l : Reason} {s t : State} → refused k s ≡ refused l t → (k ≡ l) × (s ≡ t)
-refused_same {k} {l} {s} {t} e = let d : ◌≡◌ {A = Refused} (record { 0 = k; 1 = s }) (record { 0 = l; 1 = t }) = cc in (ap (λ (r : Refused). r.0) d, ap (λ (r : Refused). r.1) d)
 
 -- what `?` hands on is the refusal that it met
 pub handed_on : {e : Refused} (r : Parsed) → IsErrAnd r (λ y. y ≡ e) → r ≡ Err e
@@ -67,12 +64,16 @@ is_used (told_no asked s tr ws u) e = let z : ◌≡◌ {A = ℕ} 0 1 = cc in ab
 is_used (told_deep s tr ws u) e = let z : ◌≡◌ {A = ℕ} 0 1 = cc in absurd (omega arith)
 
 -- the words that stay, through an answer that is known
-module _ {src toks : List ℕ} {room : ℕ} {p : Part Action Rule} {out : Shape} {vs ws : List Value} {s : State} {tr : List ℕ} {b : Parsed} {tr₁ : List ℕ} {s₁ : State} where
-  frame_node : {n : NodeNumber} {m : ℕ} {t : List ℕ} → Comes src toks room p out vs ws s tr b tr₁ → b ≡ read n s₁ → Frame s₁.nodes tr₁ m t → Frame s.nodes tr m t
+module _ {src toks : List ℕ} {room : ℕ} {p : Part Action Rule} {out : Shape} {vs ws : List Value} {s : State} {tr : List ℕ} {b : Parsed} {tr₁ : List ℕ} where
+  frame_node : {s₁ : State} {n : NodeNumber} {m : ℕ} {t : List ℕ} → Comes src toks room p out vs ws s tr b tr₁ → b ≡ read n s₁ → Frame s₁.nodes tr₁ m t → Frame s.nodes tr m t
   frame_node c e f = frame_then (rw e at c.frame) f
 
-  frame_stop : {k : Reason} → Comes src toks room p out vs ws s tr b tr₁ → b ≡ refused k s₁ → Frame s.nodes tr s₁.nodes tr₁
+  frame_stop : {x : Refused} → Comes src toks room p out vs ws s tr b tr₁ → b ≡ Err x → Frame s.nodes tr (stopped x).nodes tr₁
   frame_stop c e = rw e at c.frame
+
+-- where what was asked for stops, no node is written
+pub frame_asked : (set : List ℕ) (s : State) {x : Refused} {tr : List ℕ} → asked_for set s ≡ x → Frame s.nodes tr (stopped x).nodes tr
+frame_asked set s a = rw (← a, asked_where set s) frame_none
 
 infixr 40 ◌⨟◌
 -- one after the other, grouped to the right
@@ -280,7 +281,7 @@ module _ {src toks : List ℕ} {room : ℕ} {r : Rule} {out : Shape} {s : State}
   open_plain o c = record { told = λ vs. rw (descend_is pyhyeon good room r s.opened (state src toks s tr vs), o) (c vs).told; frame = (c []).frame }
 
   -- E and Block take of the room
-  pub open_deep : opens r ≡ true → s.used ≡ text_before src toks s.at.0 → room ≡ 0 → Rules src toks room r out s tr (refused reason.TooDeep s) tr
+  pub open_deep : opens r ≡ true → s.used ≡ text_before src toks s.at.0 → room ≡ 0 → Rules src toks room r out s tr (Err (refused.TooDeep s)) tr
   unfolding enter
   open_deep o u z = record { told = λ vs. rw (descend_is pyhyeon good room r s.opened (state src toks s tr vs), o, z) (told_deep s tr vs u); frame = frame_none }
 
@@ -292,7 +293,7 @@ module _ {src toks : List ℕ} {room : ℕ} {r : Rule} {out : Shape} {s : State}
       go zero nz c = absurd (nz refl)
       go (suc m) nz c = let e : suc m - 1 ≡ m = omega arith in record { told = λ vs. rw (descend_is pyhyeon good (suc m) r s.opened (state src toks s tr vs), o) (rw e at (c vs).told); frame = (c []).frame }
 
-stop : {src toks : List ℕ} {out mid : Shape} {vs us : List Value} {x : Answer (machine src (tokens_of src toks))} {b : Parsed} {t : List ℕ} {k : Reason} {s₁ : State} (w : Walk (machine src (tokens_of src toks))) → Told src toks mid us x b t → b ≡ refused k s₁ → Told src toks out vs (then_d x w) (refused k s₁) t
+stop : {src toks : List ℕ} {out mid : Shape} {vs us : List Value} {x : Answer (machine src (tokens_of src toks))} {b : Parsed} {t : List ℕ} {x₁ : Refused} (w : Walk (machine src (tokens_of src toks))) → Told src toks mid us x b t → b ≡ Err x₁ → Told src toks out vs (then_d x w) (Err x₁) t
 unfolding then_d
 stop w (told_node n s tr u) e = absurd (let z : ◌≡◌ {A = ℕ} 0 1 = cc in omega arith)
 stop w (told_no asked s tr ws u) e = rw (← e) (told_no asked s tr ws u)
@@ -314,19 +315,19 @@ module _ {src toks : List ℕ} {room : ℕ} {out : Shape} {vs : List Value} wher
       Comes src toks room (many p) out vs (out n.0 s.nodes ∷ vs) s tr (read n s) tr
   turn_end {p} {s} {tr} {n} l h e u = record { told = rw (many_none src toks room s tr (out n.0 s.nodes ∷ vs) h p l e) (told_node n s tr u); frame = frame_none }
 
-  pub tok_not : {set : List ℕ} {k : Reason} {q : Part Action Rule} {s : State} {tr : List ℕ} {ws : List Value} → s.at.0 ≤ eof_at toks → s.used ≡ text_before src toks s.at.0 → mem (symbol_at src toks s.at.0) set ≡ false → asked_reason set ≡ k →
-      Comes src toks room (tok set ⨾ q) out vs ws s tr (refused k s) tr
+  pub tok_not : {set : List ℕ} {x : Refused} {q : Part Action Rule} {s : State} {tr : List ℕ} {ws : List Value} → s.at.0 ≤ eof_at toks → s.used ≡ text_before src toks s.at.0 → mem (symbol_at src toks s.at.0) set ≡ false → asked_for set s ≡ x →
+      Comes src toks room (tok set ⨾ q) out vs ws s tr (Err x) tr
   unfolding walk seq_d then_d same_d
-  tok_not {set} {s = s} {tr = tr} {ws = ws} h u e a = record { told = rw (take_unseen src toks set s tr ws h e, ← a) (told_no set s tr ws u); frame = frame_none }
+  tok_not {set} {s = s} {tr = tr} {ws = ws} h u e a = record { told = rw (take_unseen src toks set s tr ws h e, ← a) (told_no set s tr ws u); frame = frame_asked set s a }
 
-  pub part_stop : {p q : Part Action Rule} {ins : List Value} {s s₁ : State} {tr tr₁ : List ℕ} {b : Parsed} {k : Reason} {mid : Shape} (ws : List Value) → Parts src toks room p ins mid s tr b tr₁ → b ≡ refused k s₁ →
-      Comes src toks room (p ⨾ q) out vs (ins ++ ws) s tr (refused k s₁) tr₁
+  pub part_stop : {p q : Part Action Rule} {ins : List Value} {s : State} {tr tr₁ : List ℕ} {b : Parsed} {x : Refused} {mid : Shape} (ws : List Value) → Parts src toks room p ins mid s tr b tr₁ → b ≡ Err x →
+      Comes src toks room (p ⨾ q) out vs (ins ++ ws) s tr (Err x) tr₁
   unfolding walk seq_d
   part_stop {q = q} ws r e = record { told = stop (on src toks room q) (r.comes ws).told e; frame = frame_stop (r.comes ws) e }
 
 module _ {src toks : List ℕ} {room : ℕ} {out : Shape} {vs : List Value} where
-  pub flat_stop : {p : Part Action Rule} {ins : List Value} {s s₁ : State} {tr tr₁ : List ℕ} {b : Parsed} {k : Reason} {mid : Shape} (q : Part Action Rule) (ws : List Value) → Parts src toks room p ins mid s tr b tr₁ → b ≡ refused k s₁ →
-      Comes src toks room (p ⨟ q) out vs (ins ++ ws) s tr (refused k s₁) tr₁
+  pub flat_stop : {p : Part Action Rule} {ins : List Value} {s : State} {tr tr₁ : List ℕ} {b : Parsed} {x : Refused} {mid : Shape} (q : Part Action Rule) (ws : List Value) → Parts src toks room p ins mid s tr b tr₁ → b ≡ Err x →
+      Comes src toks room (p ⨟ q) out vs (ins ++ ws) s tr (Err x) tr₁
   flat_stop {p} {ins} {s} {tr = tr} q ws r e = record { told = rw (regroup src toks room p q s.opened (state src toks s tr (ins ++ ws))) (stop (on src toks room q) (r.comes ws).told e); frame = frame_stop (r.comes ws) e }
 
 -- a call of a rule
@@ -335,10 +336,10 @@ module _ {src toks : List ℕ} {room : ℕ} {r : Rule} {out : Shape} {s : State}
   unfolding walk by_d state
   called h e c = record { comes = λ vs. record { told = rw (sees_at src toks (first r) s.at.0 h ∙ e) (c.told vs); frame = c.frame } }
 
-  pub no_call : {k : Reason} → s.at.0 ≤ eof_at toks → s.used ≡ text_before src toks s.at.0 → mem (symbol_at src toks s.at.0) (first r) ≡ false → asked_reason (first r) ≡ k → Parts src toks room (call r) [] out s tr (refused k s) tr
+  pub no_call : {x : Refused} → s.at.0 ≤ eof_at toks → s.used ≡ text_before src toks s.at.0 → mem (symbol_at src toks s.at.0) (first r) ≡ false → asked_for (first r) s ≡ x → Parts src toks room (call r) [] out s tr (Err x) tr
   unfolding walk by_d state
-  no_call h u e a = record { comes = λ vs. record { told = rw (sees_at src toks (first r) s.at.0 h ∙ e, ← a) (told_no (first r) s tr vs u); frame = frame_none } }
+  no_call h u e a = record { comes = λ vs. record { told = rw (sees_at src toks (first r) s.at.0 h ∙ e, ← a) (told_no (first r) s tr vs u); frame = frame_asked (first r) s a } }
 
 -- the same where more was to follow, and so any shape will do
-pub not_called : {src toks : List ℕ} {room : ℕ} {r : Rule} {s : State} {tr : List ℕ} {k : Reason} → s.at.0 ≤ eof_at toks → s.used ≡ text_before src toks s.at.0 → mem (symbol_at src toks s.at.0) (first r) ≡ false → asked_reason (first r) ≡ k → Parts src toks room (call r) [] a_node s tr (refused k s) tr
+pub not_called : {src toks : List ℕ} {room : ℕ} {r : Rule} {s : State} {tr : List ℕ} {x : Refused} → s.at.0 ≤ eof_at toks → s.used ≡ text_before src toks s.at.0 → mem (symbol_at src toks s.at.0) (first r) ≡ false → asked_for (first r) s ≡ x → Parts src toks room (call r) [] a_node s tr (Err x) tr
 not_called = no_call

@@ -13,9 +13,9 @@ use Rattle.pyhyeon.specs.Action.{Action, list_done}
 use Rattle.pyhyeon.specs.Rules.{Rule}
 use Rattle.leaves.specs.declared.State.{State}
 use Rattle.lookahead.specs.Tokens.{eof_at, text_before, Tokens}
-use Rattle.source.specs.declared.refusal.Reason.{Reason}
-use Rattle.joint.proofs.Chain.{read_same, refused_same}
-use Rattle.leaves.specs.Contract.{Parsed, read, refused, Shape, a_node, a_list, Comes, Ready, Led, Lists}
+use Rattle.leaves.specs.declared.Refused.{Refused}
+use Rattle.joint.proofs.Chain.{read_same}
+use Rattle.leaves.specs.Contract.{Parsed, read, Shape, a_node, a_list, Comes, Ready, Led, Lists}
 use Rattle.joint.proofs.Ends.{list_last}
 
 -- what code needs at a state, of the numbers that are left to show
@@ -53,16 +53,17 @@ module _ {src toks : List ℕ} {room : ℕ} {p : Part Action Rule} {ins : List V
   pub lists_node : {n : NodeNumber} → Led src toks room p ins s tr n s' tr' → Lists src toks room p ins s tr (read n s') tr'
   lists_node {n} d = record {
     leads = λ n₁ s₁ e. let h = read_same e in rw (h.0, h.1) at d;
-    stops = λ out k s₁ e q vs ws. let z : ◌≡◌ {A = ℕ} 0 1 = cc in absurd (omega arith);
+    stops = λ out x e q vs ws. let z : ◌≡◌ {A = ℕ} 0 1 = cc in absurd (omega arith);
   }
 
-  pub lists_stop : {k : Reason} → ((out : Shape) (q : Part Action Rule) (vs ws : List Value) → Comes src toks room (p ⨾ q) out vs (ins ++ ws) s tr (refused k s') tr') → Lists src toks room p ins s tr (refused k s') tr'
-  lists_stop {k} f = record {
+module _ {src toks : List ℕ} {room : ℕ} {p : Part Action Rule} {ins : List Value} {s : State} {tr tr' : List ℕ} where
+  pub lists_stop : {x : Refused} → ((out : Shape) (q : Part Action Rule) (vs ws : List Value) → Comes src toks room (p ⨾ q) out vs (ins ++ ws) s tr (Err x) tr') → Lists src toks room p ins s tr (Err x) tr'
+  lists_stop {x} f = record {
     leads = λ n₁ s₁ e. let z : ◌≡◌ {A = ℕ} 0 1 = cc in absurd (omega arith);
-    stops = λ out k₁ s₁ e q vs ws. let h = refused_same e in rw (h.0, h.1) at (f out q vs ws);
+    stops = λ out x₁ e q vs ws. let h : x ≡ x₁ = cc in rw h at (f out q vs ws);
   }
 
 -- where the list ends behind it
 pub lists_done : {src toks : List ℕ} {room : ℕ} {p : Part Action Rule} {ins : List Value} {s : State} {tr : List ℕ} (r : Parsed) {tr' : List ℕ} → Lists src toks room p ins s tr r tr' → (vs : List Value) → Comes src toks room (p ⨾ act list_done) a_list vs (ins ++ vs) s tr r tr'
 lists_done (Ok r) l vs = let d = l.leads r.0 r.1 refl in d.same a_list (act list_done) vs vs (list_last d.ready.used)
-lists_done (Err r) l vs = l.stops a_list r.0 r.1 refl (act list_done) vs vs
+lists_done (Err x) l vs = l.stops a_list x refl (act list_done) vs vs

@@ -1,6 +1,6 @@
 -- What the contracts of the tree reader say: how its state and tree stand for a state of the machine, and what an answer tells of the descent.
 -- Assumes nothing.
-use Rattle.std.specs.Prelude.{ℕ, ◌+◌, ◌-◌, ◌*◌, ◌^◌, ◌≤◌, ◌<◌, ◌≡◌, true, Result, Ok, Err, List, ◌∷◌, ◌++◌, length, get_or, drop}
+use Rattle.std.specs.Prelude.{ℕ, ◌+◌, ◌-◌, ◌*◌, ◌^◌, ◌≤◌, ◌<◌, ◌≡◌, true, cond, Result, Ok, Err, List, ◌∷◌, ◌++◌, length, get_or, drop}
 use Rattle.grammar.specs.Sets.{mem}
 use Rattle.grammar.specs.Grammar.{Part, ◌⨾◌}
 use Rattle.grammar.specs.Trial.{St}
@@ -14,13 +14,15 @@ use Rattle.pyhyeon.specs.Machine.{Value, node, growing, list, Kept, write}
 use Rattle.pyhyeon.specs.Action.{Action, literal, unary_node, wrap, binary_of, perform, machine}
 use Rattle.pyhyeon.specs.Rules.{Rule}
 use Rattle.pyhyeon.specs.Tables.{first, pyhyeon}
-use Rattle.pyhyeon.specs.Missing.{fault_number, asked_fault}
+use Rattle.pyhyeon.specs.Missing.{fault_number, asks_operand, asked_fault}
 use Rattle.lookahead.specs.Tokens.{eof_at, text_before, tokens_of, symbol_at, Tokens}
 use Rattle.leaves.specs.declared.State.{State}
 use Rattle.leaves.specs.declared.Added.{Added}
 use Rattle.leaves.specs.declared.Refused.{Refused}
+use Rattle.leaves.specs.declared.Refused.TheVariants as refused
 use Rattle.source.specs.Reasons.{reason_of}
 use Rattle.source.specs.declared.refusal.Reason.{Reason}
+use Rattle.source.specs.declared.refusal.Reason.TheVariants as reason
 
 -- the answer of a rule or a part: a node, and the state after it; or a refusal, and the state at its token
 abbrev pub Parsed : Type 0
@@ -29,8 +31,16 @@ Parsed = Result Added Refused
 abbrev pub read : NodeNumber → State → Parsed
 read n s = Ok (record { 0 = n; 1 = s })
 
-abbrev pub refused : Reason → State → Parsed
-refused k s = Err (record { 0 = k; 1 = s })
+-- why the rule or part is refused, and the state at the refusal's token
+abbrev pub why : Refused → Reason
+why (refused.TooDeep s) = reason.TooDeep
+why (refused.Misfit s) = reason.Misfit
+why (refused.Missing s) = reason.Missing
+
+abbrev pub stopped : Refused → State
+stopped (refused.TooDeep s) = s
+stopped (refused.Misfit s) = s
+stopped (refused.Missing s) = s
 
 -- one token further; one node more
 abbrev pub past : State → State
@@ -69,19 +79,23 @@ pub record Frame (n : ℕ) (tr : List ℕ) (n' : ℕ) (tr' : List ℕ) : Type 0 
 -- the nodes that are written when an answer is given
 abbrev pub written : Parsed → ℕ
 written (Ok r) = r.1.nodes
-written (Err r) = r.1.nodes
+written (Err e) = (stopped e).nodes
 
--- What was asked for, as code hands it on: by the number that a Newline or Dedent has there, 16 for an expression or operand and 14 for all else. Which number
+-- What was asked for, as a reason: that of the number that a Newline or Dedent has there, 16 for an expression or operand and 14 for all else. Which number
 -- the refusal has in the end, the reader tells by the token.
 abbrev pub asked_reason : List ℕ → Reason
 asked_reason asked = reason_of (fault_number (asked_fault asked))
+
+-- and as code hands it on: the refusal, at a state
+abbrev pub asked_for : List ℕ → State → Refused
+asked_for asked s = cond (asks_operand asked) (refused.Missing s) (refused.Misfit s)
 
 -- What the descent comes to, and the answer and the tree of the code: one value more at hand (`out` says which); or a refusal at the state's token, with
 -- whatever is at hand: 13, or what was asked for. The state has counted the text before its token.
 pub data Told (src toks : List ℕ) (out : Shape) (vs : List Value) : Answer (machine src (tokens_of src toks)) → Parsed → List ℕ → Type 0 where
   told_node : (n : NodeNumber) (s : State) (tr : List ℕ) → s.used ≡ text_before src toks s.at.0 → Told src toks out vs (done s.opened (state src toks s tr (out n.0 s.nodes ∷ vs))) (read n s) tr
-  told_no : (asked : List ℕ) (s : State) (tr : List ℕ) (ws : List Value) → s.used ≡ text_before src toks s.at.0 → Told src toks out vs (no asked s.opened (state src toks s tr ws)) (refused (asked_reason asked) s) tr
-  told_deep : (s : State) (tr : List ℕ) (ws : List Value) → s.used ≡ text_before src toks s.at.0 → Told src toks out vs (deep s.opened (state src toks s tr ws)) (refused (reason_of 13) s) tr
+  told_no : (asked : List ℕ) (s : State) (tr : List ℕ) (ws : List Value) → s.used ≡ text_before src toks s.at.0 → Told src toks out vs (no asked s.opened (state src toks s tr ws)) (Err (asked_for asked s)) tr
+  told_deep : (s : State) (tr : List ℕ) (ws : List Value) → s.used ≡ text_before src toks s.at.0 → Told src toks out vs (deep s.opened (state src toks s tr ws)) (Err (refused.TooDeep s)) tr
 
 -- The answer is what the descent of the rule r comes to, from s on, with room for so many more E and Block, whatever values are at hand.
 pub record Rules (src toks : List ℕ) (room : ℕ) (r : Rule) (out : Shape) (s : State) (tr : List ℕ) (a : Parsed) (tr' : List ℕ) : Type 0 where
@@ -180,4 +194,4 @@ pub record Led (src toks : List ℕ) (room : ℕ) (p : Part Action Rule) (ins : 
 -- Code that reads the rest p of a list, whatever follows it.
 pub record Lists (src toks : List ℕ) (room : ℕ) (p : Part Action Rule) (ins : List Value) (s : State) (tr : List ℕ) (r : Parsed) (tr' : List ℕ) : Type 0 where
   pub leads : (n : NodeNumber) (s' : State) → r ≡ read n s' → Led src toks room p ins s tr n s' tr'
-  pub stops : (out : Shape) (k : Reason) (s' : State) → r ≡ refused k s' → (q : Part Action Rule) (vs ws : List Value) → Comes src toks room (p ⨾ q) out vs (ins ++ ws) s tr (refused k s') tr'
+  pub stops : (out : Shape) (e : Refused) → r ≡ Err e → (q : Part Action Rule) (vs ws : List Value) → Comes src toks room (p ⨾ q) out vs (ins ++ ws) s tr (Err e) tr'

@@ -3,7 +3,7 @@
 #![tactic(auto)]
 
 ghost use Rattle.std.specs.Prelude.{◌≡◌, ◌+◌, ◌<◌, ◌^◌};
-ghost use Rattle.leaves.specs.Contract.{past};
+ghost use Rattle.leaves.specs.Contract.{past, why, stopped};
 
 mod list;
 mod write;
@@ -38,9 +38,36 @@ pub fn past(s: State) -> State
 pub struct Added(pub NodeNumber, pub State);
 
 // A refusal at the state's token: too deep, or by what was asked for there, an expression or operand (`Missing`, which is its number at a Newline or Dedent) or
-// anything else (`Misfit`).
+// anything else (`Misfit`). The case takes the word that an answer's node takes. A `Reason` there would be one byte, so that the word would be stored in
+// pieces, for which whoever loads it waits (docs/PERFORMANCE.md).
 #[derive(Clone, Copy)]
-pub struct Refused(pub Reason, pub State);
+pub enum Refused {
+    TooDeep(State),
+    Misfit(State),
+    Missing(State),
+}
+
+impl Refused {
+    // Why it is refused.
+    pub fn reason(self) -> Reason
+        ensures { result ≡ why self }
+    {
+        match self {
+            Refused::TooDeep(_) => Reason::TooDeep,
+            Refused::Misfit(_) => Reason::Misfit,
+            Refused::Missing(_) => Reason::Missing,
+        }
+    }
+
+    // The state at its token.
+    pub fn state(self) -> State
+        ensures { result ≡ stopped self }
+    {
+        match self {
+            Refused::TooDeep(s) | Refused::Misfit(s) | Refused::Missing(s) => s,
+        }
+    }
+}
 
 // The answer of a rule or a part. The state is handed on in both.
 pub type Parsed = Result<Added, Refused>;

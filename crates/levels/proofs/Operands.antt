@@ -18,9 +18,10 @@ use Rattle.pyhyeon.specs.Tables.{first_u, rank}
 use Rattle.leaves.specs.declared.State.{State}
 use Rattle.leaves.specs.declared.Added.{Added}
 use Rattle.lookahead.specs.Tokens.{eof_at, text_before, symbol_at}
-use Rattle.source.specs.declared.refusal.Reason.{Reason}
-use Rattle.source.specs.declared.refusal.Reason.TheVariants as reason
-use Rattle.leaves.specs.Contract.{Parsed, read, refused, asked_reason, past, added, a_node, Rules, Comes, Parts, Ready, Spot}
+use Rattle.std.specs.Prelude.{Err}
+use Rattle.leaves.specs.declared.Refused.{Refused}
+use Rattle.leaves.specs.declared.Refused.TheVariants as refused
+use Rattle.leaves.specs.Contract.{Parsed, read, asked_for, past, added, a_node, Rules, Comes, Parts, Ready, Spot}
 use Rattle.lookahead.proofs.Tokens.{before_eof, Took, took}
 use Rattle.joint.proofs.Bounds.{Grown, after_rule}
 use Rattle.joint.proofs.Chain.{called, not_called, part_then, part_stop}
@@ -84,7 +85,7 @@ module _ {B : Type 0} {g : Joint B} {src toks : List ℕ} {room more : ℕ} {u :
   read_as = called i.ready.here (rw (first_same g.level) i.seen) c
 
   -- the operand was refused
-  pub reading_stops : {k : Reason} {t : State} → inner ≡ refused k t → (vs : List Value) → Comes src toks room g.body a_node vs vs u tr₀ (refused k t) tr₁
+  pub reading_stops : {x : Refused} → inner ≡ Err x → (vs : List Value) → Comes src toks room g.body a_node vs vs u tr₀ (Err x) tr₁
   reading_stops e vs = i.same vs (part_stop _ read_as e)
 
 -- the operand n was read
@@ -183,8 +184,8 @@ module _ {B : Type 0} {g : Joint B} (w : Turn g) where
     taken : Took o.src o.toks w.made.1.at.0
     taken = took (operators g.level) (no_eof g.level) (no_string g.level) i.ready.tokens turn_here f
 
-    pub turn_misses : mem (symbol_at o.src o.toks (w.made.1.at.0 + 1)) first_u ≡ false → (vs : List Value) → Body vs (refused reason.Missing on) w.tr₂
-    turn_misses h vs = rw d (behind_is (g.turns o.b w.made.0 o.n turn_here f (part_stop _ (not_called taken.inside (used ∙ sym taken.text) (rw (first_same g.level) h) (ap asked_reason (first_same g.level))) refl)))
+    pub turn_misses : mem (symbol_at o.src o.toks (w.made.1.at.0 + 1)) first_u ≡ false → (vs : List Value) → Body vs (Err (refused.Missing on)) w.tr₂
+    turn_misses h vs = rw d (behind_is (g.turns o.b w.made.0 o.n turn_here f (part_stop _ (not_called taken.inside (used ∙ sym taken.text) (rw (first_same g.level) h) (ap (λ (z : List ℕ). asked_for z (past w.made.1)) (first_same g.level))) refl)))
 
     pub turn_less : o.st.at.0 < on.at.0
     turn_less = rw d (omega (arith, at_same, (grown o).on))

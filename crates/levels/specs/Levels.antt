@@ -12,7 +12,7 @@ use Rattle.pyhyeon.specs.Tables.{first_u}
 use Rattle.leaves.specs.declared.State.{State}
 use Rattle.leaves.specs.declared.Added.{Added}
 use Rattle.leaves.specs.declared.Refused.{Refused}
-use Rattle.source.specs.Reasons.{reason_of}
+use Rattle.leaves.specs.declared.Refused.TheVariants as refused
 use Rattle.lookahead.specs.Tokens.{tokens_of, symbol_at}
 use Rattle.leaves.specs.Contract.{past, added, kept, Frame, Writes}
 use Rattle.levels.specs.declared.Level.{Level}
@@ -69,4 +69,4 @@ pub record Compared (src toks : List ℕ) (b : Chain) (n : NodeNumber) (s : Stat
 pub record Stands (src toks : List ℕ) (l : Level) (s : State) (r : Result (Option State) Refused) : Type 0 where
   pub nothing : r ≡ Ok None → mem (symbol_at src toks s.at.0) (operators l) ≡ false
   pub operand : (t : State) → r ≡ Ok (Some t) → (t ≡ past s) × (mem (symbol_at src toks s.at.0) (operators l) ≡ true) × (mem (symbol_at src toks (s.at.0 + 1)) first_u ≡ true)
-  pub missing : (x : Refused) → r ≡ Err x → (x ≡ record { 0 = reason_of 16; 1 = past s }) × (mem (symbol_at src toks s.at.0) (operators l) ≡ true) × (mem (symbol_at src toks (s.at.0 + 1)) first_u ≡ false)
+  pub missing : (x : Refused) → r ≡ Err x → (x ≡ refused.Missing (past s)) × (mem (symbol_at src toks s.at.0) (operators l) ≡ true) × (mem (symbol_at src toks (s.at.0 + 1)) first_u ≡ false)

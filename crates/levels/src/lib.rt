@@ -9,7 +9,6 @@ ghost use Rattle.leaves.specs.Contract.{added, Spot};
 ghost use Rattle.levels.specs.Levels.{operators, Held, Joined, lengthened, Hung, Compared, Stands};
 
 use leaves::{Added, Refused, State};
-use source::Reason;
 use token::{NodeNumber, TokenNumber};
 
 // The levels of operators: O, A, C, S and P. The operand of each is the next of them, and that of P is U.
@@ -99,7 +98,7 @@ pub fn look(src: &[u8], toks: &[u32], level: Level, s: State) -> Result<Option<S
     }
     let on = leaves::past(s);
     if !lookahead::begins_u(lookahead::symbol_at(src, toks, on.at)) {
-        return Err(Refused(Reason::Missing, on));
+        return Err(Refused::Missing(on));
     }
     Ok(Some(on))
 }

@@ -24,9 +24,10 @@ use Rattle.pyhyeon.proofs.Meter.{meter}
 use Rattle.pyhyeon.proofs.Held.{Fit, Held, keeps}
 use Rattle.pyhyeon.proofs.Limits.{frugal}
 use Rattle.leaves.specs.declared.State.{State}
-use Rattle.source.specs.declared.refusal.Reason.TheVariants as reason
+use Rattle.std.specs.Prelude.{Err}
+use Rattle.leaves.specs.declared.Refused.TheVariants as refused
 use Rattle.lookahead.specs.Tokens.{code_at, start_at, eof_at, tokens_of, Tokens}
-use Rattle.leaves.specs.Contract.{Parsed, read, refused, a_node, state, asked_reason, Told, told_node, told_no, told_deep, Rules}
+use Rattle.leaves.specs.Contract.{Parsed, read, a_node, state, asked_for, Told, told_node, told_no, told_deep, Rules}
 use Rattle.lookahead.proofs.Tokens.{token_is}
 use Rattle.joint.proofs.Promised.{tokens_same}
 use Rattle.joint.proofs.Handed.{Handed}
@@ -42,8 +43,8 @@ work_at T s tr = record { tokens = T; openings = s.opened; nodes = nodes_of tr s
 -- what the descent comes to, and Program's answer and tree: the place is where the state's token starts
 pub data Came (toks : List ℕ) (T : ℕ) : Descended → Parsed → List ℕ → Type 0 where
   came_node : (n : NodeNumber) (s : State) (tr : List ℕ) → 1 ≤ s.nodes → Came toks T (Accepted (work_at T s tr)) (read n s) tr
-  came_no : (asked : List ℕ) (s : State) (tr : List ℕ) → s.at.0 ≤ T → Came toks T (Misfit (fault_of (code_at toks s.at.0) asked) (start_at toks s.at.0) (work_at T s tr)) (refused (asked_reason asked) s) tr
-  came_deep : (s : State) (tr : List ℕ) → s.at.0 ≤ T → Came toks T (TooDeep (start_at toks s.at.0) (work_at T s tr)) (refused reason.TooDeep s) tr
+  came_no : (asked : List ℕ) (s : State) (tr : List ℕ) → s.at.0 ≤ T → Came toks T (Misfit (fault_of (code_at toks s.at.0) asked) (start_at toks s.at.0) (work_at T s tr)) (Err (asked_for asked s)) tr
+  came_deep : (s : State) (tr : List ℕ) → s.at.0 ≤ T → Came toks T (TooDeep (start_at toks s.at.0) (work_at T s tr)) (Err (refused.TooDeep s)) tr
 
 module _ {src toks : List ℕ} (w : Tokens src toks) where
   -- where it comes through, the node at hand is there; where it is refused, the token that stands next is there

@@ -5,9 +5,9 @@ use mathlib.Core.List.{List, [], ◌∷◌, ◌++◌, append-nil, append_assoc}
 use Prim.Native.Nat.{ℕ, zero, suc, ◌+◌, ◌-◌, ◌*◌, ◌≤◌}
 use native.Mathlib.Omega.{arith}
 use lib.ListN.{length, get_or, take, drop, replicate, length-append, length-drop, length-take, drop_of_length-le}
-use lib.Seq.{drop-length, length-take-le, drop-cons, drop-drop, take-add, take-append-add, take_at}
+use lib.Seq.{length-take-le, drop-cons, drop-drop, take-add, take-append-add, take_at}
 use borrow.Rule.Slice.PartMut.{put_mid}
-use Rattle.areas.specs.Area.{area, filled_with, zeroed}
+use Rattle.areas.specs.Area.{area}
 use Rattle.ast.specs.Node.{Node, words}
 use Rattle.ast.specs.Words.{tabulate, node_at, nodes_of}
 use Rattle.ast.proofs.Nodes.{length_nodes}

@@ -18,12 +18,14 @@ use Rattle.ast.proofs.Nodes.{length_nodes}
 use Rattle.pyhyeon.specs.Reading.{Descended, Accepted, Limited, work_of, descent}
 use Rattle.pyhyeon.proofs.Limits.{limits}
 use Rattle.leaves.specs.declared.State.{State}
-use Rattle.leaves.specs.Contract.{Parsed, read, refused as given_up}
+use Rattle.leaves.specs.declared.Refused.{Refused}
+use Rattle.leaves.specs.Contract.{Parsed, read, why, stopped, asked_reason}
+use Rattle.leaves.proofs.Asked.{asked_why, asked_where}
 use Rattle.lookahead.specs.Tokens.{code_at, start_at}
 use Rattle.joint.proofs.Handed.{Handed, handed_front}
 use Rattle.reader.specs.Outcome.{Outcome, tree_area, header, of_descent, of_scan}
 use Rattle.reader.specs.Steps.{Exact, padded, Held, Tells, Counted, Fills}
-use Rattle.source.specs.Reasons.{reason_of, refusal_at}
+use Rattle.source.specs.Reasons.{refusal_at}
 use Rattle.source.specs.declared.refusal.Reason.{Reason}
 use Rattle.source.specs.declared.refusal.Refusal.{Refusal}
 use Rattle.reader.specs.Answer as answer
@@ -58,8 +60,8 @@ module _ {toks : List ℕ} {T : ℕ} where
   pub told : {d : Descended} {a b : Parsed} {tr : List ℕ} → a ≡ b → Came toks T d a tr → Came toks T d b tr
   told {d} {tr = tr} e c = subst (λ (x : Parsed). Came toks T d x tr) e c
 
-  pub stop_here : {d : Descended} {k : Reason} {s : State} {tr : List ℕ} → Came toks T d (given_up k s) tr → s.at.0 ≤ T
-  stop_here (came_no asked s tr h) = h
+  pub stop_here : {d : Descended} {x : Refused} {tr : List ℕ} → Came toks T d (Err x) tr → (stopped x).at.0 ≤ T
+  stop_here (came_no asked s tr h) = rw (asked_where asked s) h
   stop_here (came_deep s tr h) = h
 
   node_is : {d : Descended} {n : NodeNumber} {s : State} {tr : List ℕ} → Came toks T d (read n s) tr → (d ≡ Accepted (work_at T s tr)) × (1 ≤ s.nodes)
@@ -70,19 +72,19 @@ module _ {toks : List ℕ} {T : ℕ} where
 
 -- a refusal at a state
 abbrev pub stop_at : ℕ → Reason → ℕ → State → Answer
-stop_at count why place s = Err (record { refusal = record { reason = why; place = place }; tokens = count; nodes = s.nodes; openings = s.opened })
+stop_at count given place s = Err (record { refusal = record { reason = given; place = place }; tokens = count; nodes = s.nodes; openings = s.opened })
 
-module _ {src : List ℕ} {count used : ℕ} {tokens text : List ℕ} (held : Held src count used tokens text) (h : Handed src count used tokens) {s : State} {tr : List ℕ} where
+module _ {src : List ℕ} {count used : ℕ} {tokens text : List ℕ} (held : Held src count used tokens text) (h : Handed src count used tokens) {tr : List ℕ} where
   -- the counts of an accepted source
-  pub counts : {toks : List ℕ} {n : NodeNumber} → Came toks count (descent src h.ts) (read n s) tr → Counted (length src) (record { tokens = count; nodes = s.nodes; text = used; openings = s.opened })
-  counts c =
+  pub counts : {toks : List ℕ} {n : NodeNumber} {s : State} → Came toks count (descent src h.ts) (read n s) tr → Counted (length src) (record { tokens = count; nodes = s.nodes; text = used; openings = s.opened })
+  counts {s = s} c =
       let f = few c (limits src h.ts) in
       record { small = held.small; few_tokens = h.few; few_bytes = h.few_bytes; some = (node_is c).1; few_nodes = f.0; few_openings = f.1 }
 
-  pub accepts : {toks : List ℕ} {n : NodeNumber} {r : Answer} {tree : List ℕ} → length tr ≡ tree_area (length src) → Came toks count (descent src h.ts) (read n s) tr
+  pub accepts : {toks : List ℕ} {n : NodeNumber} {s : State} {r : Answer} {tree : List ℕ} → length tr ≡ tree_area (length src) → Came toks count (descent src h.ts) (read n s) tr
       → r ≡ answer.tree count s.nodes used s.opened → tree ≡ padded (tree_area (length src)) (header (length src) count used s.nodes s.opened ++ take (8 * s.nodes) (drop 8 tr))
       → Fills (of_scan src (token_list src)) (length src) r tokens text tree
-  accepts {r = r} {tree = tree} long c a e =
+  accepts {s = s} {r = r} {tree = tree} long c a e =
       let k = counts c in
       let m : length (nodes_of tr s.nodes) ≡ s.nodes = length_nodes tr s.nodes in
       let is : of_scan src (token_list src) ≡ of_descent (length src) h.ts h.bs (Accepted (work_at count s tr)) = ap (of_scan src) h.is ∙ ap (of_descent (length src) h.ts h.bs) (node_is c).0 in
@@ -95,15 +97,17 @@ module _ {src : List ℕ} {count used : ℕ} {tokens text : List ℕ} (held : He
       })
 
   -- a refusal: zeros alone
-  pub refuses : {toks : List ℕ} {code place : ℕ} {k why : Reason} {tokens' text' tree' : List ℕ} → length tr ≡ tree_area (length src) → Came toks count (descent src h.ts) (given_up k s) tr → Tells k code why → code ≡ code_at toks s.at.0 → place ≡ start_at toks s.at.0
+  pub refuses : {toks : List ℕ} {code place : ℕ} {x : Refused} {k given : Reason} {s : State} {tokens' text' tree' : List ℕ} → length tr ≡ tree_area (length src) → Came toks count (descent src h.ts) (Err x) tr → k ≡ why x → s ≡ stopped x → Tells k code given → code ≡ code_at toks s.at.0 → place ≡ start_at toks s.at.0
       → tokens' ≡ replicate (length tokens) 0 → text' ≡ replicate (length text) 0 → tree' ≡ replicate (length tr) 0
-      → Fills (of_scan src (token_list src)) (length src) (stop_at count why place s) tokens' text' tree'
-  refuses {toks} {code} {place} {k} {why} {tokens'} {text'} {tree'} long c m o e p q r =
-      subst (λ (x : Scan). Fills (of_scan src x) (length src) (stop_at count why place s) tokens' text' tree') (sym h.is)
-      (subst (λ (i : ℕ). Fills (of_descent (length src) h.ts h.bs (descent src h.ts)) (length src) (stop_at count why i s) tokens' text' tree') (sym e) (go c (rw o at m)))
+      → Fills (of_scan src (token_list src)) (length src) (stop_at count given place s) tokens' text' tree'
+  refuses {toks} {code} {place} {x} {k} {given} {s} {tokens'} {text'} {tree'} long c i j m o e p q r =
+      rw j (subst (λ (y : Scan). Fills (of_scan src y) (length src) (stop_at count given place (stopped x)) tokens' text' tree') (sym h.is)
+      (subst (λ (w : ℕ). Fills (of_descent (length src) h.ts h.bs (descent src h.ts)) (length src) (stop_at count given w (stopped x)) tokens' text' tree') (sym (rw j at e)) (go c (rw (i, o, j) at m))))
     where
-      go : {d : Descended} {j : Reason} {st : State} {t : List ℕ} → Came toks count d (given_up j st) t → Tells j (code_at toks st.at.0) why → Fills (of_descent (length src) h.ts h.bs d) (length src) (stop_at count why (start_at toks st.at.0) st) tokens' text' tree'
-      go (came_no asked s tr l) w = rw (length_nodes tr s.nodes, w.unfit asked refl) (record { answer = refl; tokens_are = p ∙ zeros_pad (held_tokens held); text_is = q ∙ zeros_pad (held_text held); tree_is = r ∙ zeros_pad long })
+      go : {d : Descended} {y : Refused} {t : List ℕ} → Came toks count d (Err y) t → Tells (why y) (code_at toks (stopped y).at.0) given → Fills (of_descent (length src) h.ts h.bs d) (length src) (stop_at count given (start_at toks (stopped y).at.0) (stopped y)) tokens' text' tree'
+      go (came_no asked s tr l) w =
+          let v : Tells (asked_reason asked) (code_at toks s.at.0) given = rw (asked_where asked s, asked_why asked s) at w in
+          rw (asked_where asked s, length_nodes tr s.nodes, v.unfit asked refl) (record { answer = refl; tokens_are = p ∙ zeros_pad (held_tokens held); text_is = q ∙ zeros_pad (held_text held); tree_is = r ∙ zeros_pad long })
       go (came_deep s tr l) w = rw (length_nodes tr s.nodes, w.deep refl) (record { answer = refl; tokens_are = p ∙ zeros_pad (held_tokens held); text_is = q ∙ zeros_pad (held_text held); tree_is = r ∙ zeros_pad long })
 
 -- ---- the scanner's answer

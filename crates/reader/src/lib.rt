@@ -13,7 +13,7 @@ ghost use Rattle.reader.specs.Outcome.{header, of_scan, tree_area};
 ghost use Rattle.reader.specs.Reads.{Reads};
 ghost use Rattle.reader.specs.Steps.{Exact, Fills, Counted, Held, padded, Tells};
 
-use leaves::{Added, Refused};
+use leaves::Added;
 use lexer::Scanned;
 use source::{Reason, Refusal};
 
@@ -118,8 +118,9 @@ fn read_tokens(
             finish(src.len(), found, tree);
             Ok(found)
         }
-        Err(Refused(asked, s)) => {
-            let reason = stopped_by(asked, lookahead::code_at(words, s.at));
+        Err(refused) => {
+            let s = refused.state();
+            let reason = stopped_by(refused.reason(), lookahead::code_at(words, s.at));
             let place = lookahead::start_at(words, s.at).0 as usize;
             clear(tokens, text, tree);
             Err(Stop {

@@ -6,7 +6,7 @@ use mathlib.Core.List.{List, [], ◌∷◌}
 use Prim.Native.Nat.{ℕ, ◌+◌, ◌-◌, ◌*◌, ◌≤◌}
 use native.Mathlib.Omega.{arith}
 use lib.ListN.{length}
-use Rattle.std.specs.Prelude.{Option, Some}
+use Rattle.std.specs.Prelude.{Option, Some, Err}
 use Rattle.grammar.specs.Sets.{mem}
 use Rattle.grammar.specs.Grammar.{Part, act, call, ◌⨾◌, tail}
 use Rattle.grammar.specs.Descent.{null, begins}
@@ -19,8 +19,8 @@ use Rattle.pyhyeon.specs.Rules as rules
 use Rattle.pyhyeon.specs.Tables.{first, first_simple, rank}
 use Rattle.leaves.specs.declared.State.{State}
 use Rattle.lookahead.specs.Tokens.{symbol_at}
-use Rattle.source.specs.declared.refusal.Reason.{Reason}
-use Rattle.leaves.specs.Contract.{Parsed, read, refused, past, a_node, a_growing, Rules, Comes, Parts}
+use Rattle.leaves.specs.declared.Refused.{Refused}
+use Rattle.leaves.specs.Contract.{Parsed, read, past, a_node, a_growing, Rules, Comes, Parts}
 use Rattle.joint.proofs.Chain.{part_then, part_stop, list_on, list_shut, list_end}
 use Rattle.joint.proofs.Counts.{Came, came_node, pays_simple}
 use Rattle.joint.proofs.Ends.{one_then}
@@ -45,7 +45,7 @@ Reading src toks room u tr₀ b st tr = Gathering src toks room 2 Simple a_growi
 
 module _ {src toks : List ℕ} {room : ℕ} {u : State} {tr₀ : List ℕ} {b : Option Gathered} {st : State} {tr : List ℕ} (i : Reading src toks room u tr₀ b st tr) {inner : Parsed} {tr₁ : List ℕ} (c : Rules src toks room Simple a_node st tr inner tr₁) where
   -- it was refused
-  pub simples_stop : {k : Reason} {t : State} → inner ≡ refused k t → (vs : List Value) → Comes src toks room rules.simples a_growing vs vs u tr₀ (refused k t) tr₁
+  pub simples_stop : {x : Refused} → inner ≡ Err x → (vs : List Value) → Comes src toks room rules.simples a_growing vs vs u tr₀ (Err x) tr₁
   simples_stop e vs = i.same vs (part_stop _ (gathering_read i c) e)
 
   module _ {n : NodeNumber} {after : State} (e : inner ≡ read n after) where

@@ -16,8 +16,9 @@ use Rattle.pyhyeon.specs.Tables.{joined, first, first_e, first_simple, t_joined}
 use Rattle.leaves.specs.declared.State.{State}
 use Rattle.leaves.specs.declared.Added.{Added}
 use Rattle.lookahead.specs.Tokens.{eof_at, text_before, symbol_at}
-use Rattle.source.specs.declared.refusal.Reason.{Reason}
-use Rattle.leaves.specs.Contract.{Parsed, read, refused, past, a_node, Comes, Parts, Ready, Spot, Writes}
+use Rattle.std.specs.Prelude.{Err}
+use Rattle.leaves.specs.declared.Refused.{Refused}
+use Rattle.leaves.specs.Contract.{Parsed, read, past, a_node, Comes, Parts, Ready, Spot, Writes}
 use Rattle.lookahead.proofs.Tests.{among_first, not_first}
 use Rattle.joint.proofs.Chain.{raised, tok_then, part_then, part_stop}
 use Rattle.joint.proofs.Choices.{absent, starts, or_first, or_next}
@@ -65,7 +66,7 @@ pub record Stating (src toks : List ℕ) (room : ℕ) (what : Role) (u : State) 
 
 module _ {src toks : List ℕ} {room : ℕ} {what : Role} {u : State} {tr₀ : List ℕ} {r : Role} {st : State} {tr : List ℕ} (i : Stating src toks room what u tr₀ r st tr) {inner : Parsed} {tr₁ : List ℕ} (c : Parts src toks room t_joined [] a_node st tr inner tr₁) where
   -- the t was refused
-  pub stating_stops : {k : Reason} {t : State} → inner ≡ refused k t → (vs : List Value) → Comes src toks room (stated what) a_node vs (hand what ++ vs) u tr₀ (refused k t) tr₁
+  pub stating_stops : {x : Refused} → inner ≡ Err x → (vs : List Value) → Comes src toks room (stated what) a_node vs (hand what ++ vs) u tr₀ (Err x) tr₁
   stating_stops e vs = i.same vs (part_stop _ c e)
 
   -- it was read

@@ -15,7 +15,6 @@ ghost use Rattle.simple.specs.Roles.{stated, hand, does, targets, Placed};
 ghost use Rattle.simple.specs.Lists.{Held, Appended};
 
 use leaves::{Added, Parsed, Refused, State};
-use source::Reason;
 use token::{NodeNumber, TokenNumber};
 
 // What a t is to its statement: what the Return of this keyword gives; its first t, which may be a target; or the value of this target.
@@ -111,7 +110,7 @@ pub fn simples(src: &[u8], toks: &[u32], tree: &mut [u32], left: u32, s: State) 
     ensures { Parts src.now toks.now left rules.simples [] a_growing s tree.old result tree.new }
 {
     if !lookahead::begins_simple(lookahead::symbol_at(src, toks, s.at)) {
-        return Err(Refused(Reason::Misfit, s));
+        return Err(Refused::Misfit(s));
     }
     let mut gathered = None;
     let mut st = s;
@@ -154,6 +153,6 @@ fn line_end(src: &[u8], toks: &[u32], first: NodeNumber, s: State) -> Parsed
     match lookahead::symbol_at(src, toks, s.at) {
         token::NEWLINE => Ok(Added(first, leaves::past(s))),
         token::EOF => Ok(Added(first, s)),
-        _ => Err(Refused(Reason::Misfit, s)),
+        _ => Err(Refused::Misfit(s)),
     }
 }

@@ -22,8 +22,8 @@ use Rattle.pyhyeon.specs.Rules.{Rule, Line, newlines}
 use Rattle.pyhyeon.specs.Tables.{first, first_line, least, rank, lines_on, pyhyeon}
 use Rattle.pyhyeon.specs.Prices.{writes, needs, gives}
 use Rattle.leaves.specs.declared.State.{State}
-use Rattle.source.specs.declared.refusal.Reason.{Reason}
-use Rattle.leaves.specs.Contract.{Parsed, read, refused, a_node, a_list, a_growing, Rules, Comes, Parts}
+use Rattle.leaves.specs.declared.Refused.{Refused}
+use Rattle.leaves.specs.Contract.{Parsed, read, a_node, a_list, a_growing, Rules, Comes, Parts}
 use Rattle.lookahead.specs.Run.{Run}
 use Rattle.lookahead.specs.Tokens.{text_before, symbol_at}
 use Rattle.leaves.proofs.Frames.{frame_none}
@@ -93,7 +93,7 @@ Reading src toks room u tr₀ b st tr = Gathering src toks room 1 Line a_list li
 
 module _ {src toks : List ℕ} {room : ℕ} {u : State} {tr₀ : List ℕ} {b : Option Gathered} {st : State} {tr : List ℕ} (i : Reading src toks room u tr₀ b st tr) {inner : Parsed} {tr₁ : List ℕ} (c : Rules src toks room Line a_growing st tr inner tr₁) where
   -- the Line was refused
-  pub lines_stop : {k : Reason} {t : State} → inner ≡ refused k t → (vs : List Value) → Comes src toks room lines_on a_list vs vs u tr₀ (refused k t) tr₁
+  pub lines_stop : {x : Refused} → inner ≡ Err x → (vs : List Value) → Comes src toks room lines_on a_list vs vs u tr₀ (Err x) tr₁
   lines_stop e vs = i.same vs (part_stop _ (gathering_read i c) e)
 
   -- it was read

@@ -9,13 +9,13 @@ use Rattle.grammar.specs.Sets.{mem}
 use Rattle.grammar.specs.Grammar.{Part, act, tok, ◌⨾◌}
 use Rattle.token.specs.Code.{Eof, String}
 use Rattle.token.specs.declared.NodeNumber.{NodeNumber}
-use Rattle.source.specs.declared.refusal.Reason.TheVariants as reason
 use Rattle.pyhyeon.specs.Machine.{Value, token, list}
 use Rattle.pyhyeon.specs.Action.{Action, mark}
 use Rattle.pyhyeon.specs.Rules.{Rule}
 use Rattle.leaves.specs.declared.State.{State}
 use Rattle.leaves.specs.declared.Refused.{Refused}
-use Rattle.leaves.specs.Contract.{Parsed, read, asked_reason, past, Shape, a_list, Comes, Ready}
+use Rattle.leaves.specs.declared.Refused.TheVariants as refused
+use Rattle.leaves.specs.Contract.{Parsed, read, asked_for, past, Shape, a_list, Comes, Ready}
 use Rattle.lookahead.specs.Tokens.{eof_at, text_before, symbol_at, Tokens}
 use Rattle.lookahead.proofs.Tokens.{took}
 use Rattle.joint.proofs.Chain.{tok_then, tok_not}
@@ -67,7 +67,7 @@ module _ {src toks : List ℕ} {room : ℕ} {set : List ℕ} {s : State} {tr : L
     step_end = rw d.past (tok_end d.here d.seen (rw d.past at d.used))
 
   -- another symbol stands there
-  module _ {e : Refused} {r : Result State Refused} (h : s.at.0 ≤ eof_at toks) (u : s.used ≡ text_before src toks s.at.0) (k : Takes (mem (symbol_at src toks s.at.0) set) s r) (i : r ≡ Err e) (m : asked_reason set ≡ reason.Misfit) where
+  module _ {e : Refused} {r : Result State Refused} (h : s.at.0 ≤ eof_at toks) (u : s.used ≡ text_before src toks s.at.0) (k : Takes (mem (symbol_at src toks s.at.0) set) s r) (i : r ≡ Err e) (m : asked_for set s ≡ refused.Misfit s) where
     pub step_not : {q : Part Action Rule} {out : Shape} {vs ws : List Value} → Comes src toks room (tok set ⨾ q) out vs ws s tr (Err e) tr
     step_not = let d = k.other _ i in rw d.0 (tok_not h u d.1 m)
 

@@ -26,7 +26,6 @@ mod whole;
 
 use leaves::{Added, Parsed, Refused, State};
 use simple::Gathered;
-use source::Reason;
 use take::{begins_lines, leads, take, take_name};
 use token::{NodeNumber, TokenNumber};
 pub use whole::program;
@@ -68,7 +67,7 @@ fn rule_block(src: &[u8], toks: &[u32], tree: &mut [u32], left: u32, s: State) -
     ensures { Rules src.now toks.now left Block a_list s tree.old result tree.new }
 {
     if left == 0 {
-        return Err(Refused(Reason::TooDeep, s));
+        return Err(Refused::TooDeep(s));
     }
     let room = left - 1;
     let on = State {
@@ -93,7 +92,7 @@ fn block(src: &[u8], toks: &[u32], tree: &mut [u32], left: u32, s: State) -> Par
     if lookahead::is_symbol(lookahead::symbol_at(src, toks, s.at), token::COLON) {
         rule_block(src, toks, tree, left, s)
     } else {
-        Err(Refused(Reason::Misfit, s))
+        Err(Refused::Misfit(s))
     }
 }
 
@@ -130,7 +129,7 @@ fn lines(src: &[u8], toks: &[u32], tree: &mut [u32], left: u32, s: State) -> Par
     ensures { Parts src.now toks.now left lines_on [] a_list s tree.old result tree.new }
 {
     if !lookahead::begins_line(lookahead::symbol_at(src, toks, s.at)) {
-        return Err(Refused(Reason::Misfit, s));
+        return Err(Refused::Misfit(s));
     }
     let mut gathered = None;
     let mut st = s;

@@ -9,7 +9,6 @@ ghost use Rattle.stmt.specs.Taking.{Takes};
 ghost use Rattle.stmt.specs.Parts.{leading};
 
 use leaves::{Refused, State};
-use source::Reason;
 
 // The state past the token there, if that fits.
 fn past_if(fits: bool, s: State) -> Result<State, Refused>
@@ -19,7 +18,7 @@ fn past_if(fits: bool, s: State) -> Result<State, Refused>
     if fits {
         Ok(leaves::past(s))
     } else {
-        Err(Refused(Reason::Misfit, s))
+        Err(Refused::Misfit(s))
     }
 }
 

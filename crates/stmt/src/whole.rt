@@ -9,7 +9,6 @@ ghost use Rattle.stmt.specs.Parts.{start, program_end};
 
 use crate::{DEPTH, lines};
 use leaves::{Added, Parsed, Refused, State};
-use source::Reason;
 use token::{NodeNumber, TokenNumber};
 
 // Program: Newlines (none or more), Lines each with Newlines around, end.
@@ -39,7 +38,7 @@ fn end(src: &[u8], toks: &[u32], tree: &mut [u32], first: NodeNumber, s: State) 
     if lookahead::is_symbol(lookahead::symbol_at(src, toks, s.at), token::EOF) {
         Ok(stmt_leaves::put_program(src, tree, first, s))
     } else {
-        Err(Refused(Reason::Misfit, s))
+        Err(Refused::Misfit(s))
     }
 }
 

@@ -399,7 +399,7 @@ listed-returns t c =
 
 pub listed-returns-in_err-head : goal.listed-returns-in_err-head
 listed-returns-in_err-head t c =
-    rw (handed_on _ c.from_residual.ensures.1) (record { comes = λ vs. c.rest.ensures.stops _ _ _ c.in_err-head.was _ _ _ })
+    rw (handed_on _ c.from_residual.ensures.1) (record { comes = λ vs. c.rest.ensures.stops _ _ c.in_err-head.was _ _ _ })
 
 pub member-returns-else-paired : goal.member-returns-else-paired
 member-returns-else-paired t c =
@@ -425,7 +425,7 @@ pairs-returns t c =
 
 pub pairs-returns-in_err-head : goal.pairs-returns-in_err-head
 pairs-returns-in_err-head t c =
-    rw (handed_on _ c.from_residual-in_err-head.ensures.1) (record { comes = λ vs. flat_then c.value.ensures c.in_ok-n.was (one_then (c.rest.ensures.stops _ _ _ c.in_err-head.was _ _ _)) })
+    rw (handed_on _ c.from_residual-in_err-head.ensures.1) (record { comes = λ vs. flat_then c.value.ensures c.in_ok-n.was (one_then (c.rest.ensures.stops _ _ c.in_err-head.was _ _ _)) })
 
 pub pairs-returns-in_err-n : goal.pairs-returns-in_err-n
 pairs-returns-in_err-n t c =
@@ -694,37 +694,46 @@ round-returns-else-is_symbol t c =
     let e = learnt (code.RParen ∷ []) c.if-is_symbol.false c.is_symbol.ensures c.symbol_at-symbol.ensures in
     record { comes = λ vs. or_neither r.here r.used b refl e refl }
 
-pub rule_e-lambda-requires : goal.rule_e-lambda-requires
-rule_e-lambda-requires t c =
+pub lambda_or_o-lambda-requires : goal.lambda_or_o-lambda-requires
+lambda_or_o-lambda-requires t c =
     let r = c.requires.ready in
     let m = ready_tested (code.Lambda ∷ []) refl refl r c.if-is_symbol.true c.is_symbol.ensures c.symbol_at.ensures in
     rw c.past.ensures (omega arith, (ready_of r.tokens (omega arith), omega arith))
 
-pub rule_e-rule_o-requires : goal.rule_e-rule_o-requires
+pub lambda_or_o-rule_o-requires : goal.lambda_or_o-rule_o-requires
 unfolding first
-rule_e-rule_o-requires t c =
+lambda_or_o-rule_o-requires t c =
     let r = c.requires.ready in
     let e = learnt (code.Lambda ∷ []) c.if-is_symbol.false c.is_symbol.ensures c.symbol_at.ensures in
     (omega arith, (ready_of r.tokens (omega arith), record { seen = without code.Lambda first_u (symbol_at c.args.src.now c.args.toks.now c.args.s.at.0) e c.requires.begun.seen }))
+
+pub lambda_or_o-returns-then-is_symbol : goal.lambda_or_o-returns-then-is_symbol
+unfolding joined plain first begins null
+lambda_or_o-returns-then-is_symbol t c =
+    let r = c.requires.ready in
+    let e = learnt (code.Lambda ∷ []) c.if-is_symbol.true c.is_symbol.ensures c.symbol_at.ensures in
+    record { comes = λ vs. or_first r.here e (tok_mark r.here e (rw c.past.ensures at (c.lambda.ensures.comes vs))) }
+
+pub lambda_or_o-returns-else-is_symbol : goal.lambda_or_o-returns-else-is_symbol
+unfolding joined plain first begins null
+lambda_or_o-returns-else-is_symbol t c =
+    let r = c.requires.ready in
+    let e = learnt (code.Lambda ∷ []) c.if-is_symbol.false c.is_symbol.ensures c.symbol_at.ensures in
+    let b = without code.Lambda first_u (symbol_at c.args.src.now c.args.toks.now c.args.s.at.0) e c.requires.begun.seen in
+    record { comes = λ vs. or_next r.here e (starts b) ((called r.here b c.rule_o.ensures).comes vs) }
+
+pub rule_e-lambda_or_o-requires : goal.rule_e-lambda_or_o-requires
+rule_e-lambda_or_o-requires t c =
+    let r = c.requires.ready in
+    (omega arith, (ready_of r.tokens (omega arith), record { seen = c.requires.begun.seen }))
 
 pub rule_e-returns-then-left-eq0 : goal.rule_e-returns-then-left-eq0
 unfolding opens
 rule_e-returns-then-left-eq0 t c = open_deep refl c.requires.ready.used c.if-left-eq0.true
 
-pub rule_e-returns-then-is_symbol : goal.rule_e-returns-then-is_symbol
-unfolding joined plain first begins null opens
-rule_e-returns-then-is_symbol t c =
-    let r = c.requires.ready in
-    let e = learnt (code.Lambda ∷ []) c.if-is_symbol.true c.is_symbol.ensures c.symbol_at.ensures in
-    open_room refl c.if-left-eq0.false (λ vs. or_first r.here e (tok_mark r.here e (rw c.past.ensures at (c.lambda.ensures.comes vs))))
-
-pub rule_e-returns-else-is_symbol : goal.rule_e-returns-else-is_symbol
-unfolding joined plain first begins null opens
-rule_e-returns-else-is_symbol t c =
-    let r = c.requires.ready in
-    let e = learnt (code.Lambda ∷ []) c.if-is_symbol.false c.is_symbol.ensures c.symbol_at.ensures in
-    let b = without code.Lambda first_u (symbol_at c.args.src.now c.args.toks.now c.args.s.at.0) e c.requires.begun.seen in
-    open_room refl c.if-left-eq0.false (λ vs. or_next r.here e (starts b) ((called r.here b c.rule_o.ensures).comes vs))
+pub rule_e-returns : goal.rule_e-returns
+unfolding opens
+rule_e-returns t c = open_room refl c.if-left-eq0.false c.lambda_or_o.ensures.comes
 
 pub rule_f-posts-requires : goal.rule_f-posts-requires
 unfolding first

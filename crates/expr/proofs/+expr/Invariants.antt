@@ -16,43 +16,46 @@ use Rattle.levels.specs.declared.Level.TheVariants as level
 use Rattle.expr.proofs.+expr.Given as goal
 
 abbrev pub decreases-args : goal.decreases-args
-decreases-args l = 8 * (length l.toks.now - 3 * l.s.at.0) + 12
+decreases-args l = 8 * (length l.toks.now - 3 * l.s.at.0) + 13
 
 abbrev pub decreases-body : goal.decreases-body
-decreases-body l = 8 * (length l.toks.now - 3 * l.s.at.0) + 11
+decreases-body l = 8 * (length l.toks.now - 3 * l.s.at.0) + 12
 
 abbrev pub decreases-brace : goal.decreases-brace
 decreases-brace l = 8 * (length l.toks.now - 3 * l.s.at.0) + 2
 
 abbrev pub decreases-braces : goal.decreases-braces
-decreases-braces l = 8 * (length l.toks.now - 3 * l.s.at.0) + 11
+decreases-braces l = 8 * (length l.toks.now - 3 * l.s.at.0) + 12
 
 abbrev pub decreases-enter : goal.decreases-enter
-decreases-enter l = 8 * (length l.toks.now - 3 * l.s.at.0) + 10
+decreases-enter l = 8 * (length l.toks.now - 3 * l.s.at.0) + 11
 
 abbrev pub decreases-head : goal.decreases-head
 decreases-head l = 8 * (length l.toks.now - 3 * l.s.at.0) + 1
 
 abbrev pub decreases-index : goal.decreases-index
-decreases-index l = 8 * (length l.toks.now - 3 * l.s.at.0) + 11
+decreases-index l = 8 * (length l.toks.now - 3 * l.s.at.0) + 12
 
 abbrev pub decreases-item : goal.decreases-item
-decreases-item l = 8 * (length l.toks.now - 3 * l.s.at.0) + 10
+decreases-item l = 8 * (length l.toks.now - 3 * l.s.at.0) + 11
 
 abbrev pub decreases-items : goal.decreases-items
-decreases-items l = 8 * (length l.toks.now - 3 * l.s.at.0) + 11
+decreases-items l = 8 * (length l.toks.now - 3 * l.s.at.0) + 12
 
 abbrev pub decreases-lambda : goal.decreases-lambda
 decreases-lambda l = 8 * (length l.toks.now - 3 * l.s.at.0) + 0
+
+abbrev pub decreases-lambda_or_o : goal.decreases-lambda_or_o
+decreases-lambda_or_o l = 8 * (length l.toks.now - 3 * l.s.at.0) + 9
 
 abbrev pub decreases-listed : goal.decreases-listed
 decreases-listed l = 8 * (length l.toks.now - 3 * l.s.at.0) + 1
 
 abbrev pub decreases-member : goal.decreases-member
-decreases-member l = 8 * (length l.toks.now - 3 * l.s.at.0) + 11
+decreases-member l = 8 * (length l.toks.now - 3 * l.s.at.0) + 12
 
 abbrev pub decreases-pairs : goal.decreases-pairs
-decreases-pairs l = 8 * (length l.toks.now - 3 * l.s.at.0) + 12
+decreases-pairs l = 8 * (length l.toks.now - 3 * l.s.at.0) + 13
 
 abbrev pub decreases-paren : goal.decreases-paren
 decreases-paren l = 8 * (length l.toks.now - 3 * l.s.at.0) + 2
@@ -67,7 +70,7 @@ abbrev pub decreases-rest : goal.decreases-rest
 decreases-rest l = 8 * (length l.toks.now - 3 * l.s.at.0) + 0
 
 abbrev pub decreases-round : goal.decreases-round
-decreases-round l = 8 * (length l.toks.now - 3 * l.s.at.0) + 11
+decreases-round l = 8 * (length l.toks.now - 3 * l.s.at.0) + 12
 
 abbrev pub decreases-rule_a : goal.decreases-rule_a
 decreases-rule_a l = 8 * (length l.toks.now - 3 * l.s.at.0) + 7
@@ -76,7 +79,7 @@ abbrev pub decreases-rule_c : goal.decreases-rule_c
 decreases-rule_c l = 8 * (length l.toks.now - 3 * l.s.at.0) + 6
 
 abbrev pub decreases-rule_e : goal.decreases-rule_e
-decreases-rule_e l = 8 * (length l.toks.now - 3 * l.s.at.0) + 9
+decreases-rule_e l = 8 * (length l.toks.now - 3 * l.s.at.0) + 10
 
 abbrev pub decreases-rule_f : goal.decreases-rule_f
 decreases-rule_f l = 8 * (length l.toks.now - 3 * l.s.at.0) + 2
@@ -94,13 +97,13 @@ abbrev pub decreases-rule_u : goal.decreases-rule_u
 decreases-rule_u l = 8 * (length l.toks.now - 3 * l.s.at.0) + 3
 
 abbrev pub decreases-shown : goal.decreases-shown
-decreases-shown l = 8 * (length l.toks.now - 3 * l.s.at.0) + 12
+decreases-shown l = 8 * (length l.toks.now - 3 * l.s.at.0) + 13
 
 abbrev pub decreases-tee : goal.decreases-tee
 decreases-tee l = 8 * (length l.toks.now - 3 * l.s.at.0) + 0
 
 abbrev pub decreases-value : goal.decreases-value
-decreases-value l = 8 * (length l.toks.now - 3 * l.s.at.0) + 11
+decreases-value l = 8 * (length l.toks.now - 3 * l.s.at.0) + 12
 
 abbrev pub invariant-posts-loop-tree : goal.invariant-posts-loop-tree
 invariant-posts-loop-tree l = Going l.src l.toks 2 l.left (many postfix) (node l.initial.n.0 ∷ []) l.initial.st l.initial.tree (node l.n.0 ∷ []) l.n.0 l.st l.tree

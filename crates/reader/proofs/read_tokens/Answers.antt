@@ -3,7 +3,8 @@ use Rattle.reader.proofs.Read.{hands, held_tokens, told, stop_here, counts, acce
 use Rattle.reader.proofs.Came.{descends}
 use lib.Seq.{length-take-le}
 use Prim.Native.Nat.{◌+◌, ◌*◌}
-use mathlib.Core.Path.{sym, refl, ◌∙◌}
+use mathlib.Core.Path.{sym, refl, ap, ◌∙◌}
+use Rattle.leaves.specs.declared.State.{State}
 use native.Mathlib.Omega.{arith}
 use Rattle.reader.proofs.read_tokens.Goals as goal
 
@@ -41,12 +42,12 @@ finish-requires c =
 pub code_at-requires : goal.code_at-requires
 code_at-requires c =
     let h = hands c.requires.held in
-    omega (arith, stop_here (told c.in-Err.is (descends h c.program.ensures)), length-take-le (3 * (c.args.count + 1)) c.args.tokens.now (omega (arith, h.few, held_tokens c.requires.held)))
+    omega (arith, stop_here (told c.in-Err.is (descends h c.program.ensures)), ap (λ (s : State). s.at.0) c.state-s.ensures, length-take-le (3 * (c.args.count + 1)) c.args.tokens.now (omega (arith, h.few, held_tokens c.requires.held)))
 
 pub start_at-place-requires : goal.start_at-place-requires
 start_at-place-requires c =
     let h = hands c.requires.held in
-    omega (arith, stop_here (told c.in-Err.is (descends h c.program.ensures)), length-take-le (3 * (c.args.count + 1)) c.args.tokens.now (omega (arith, h.few, held_tokens c.requires.held)))
+    omega (arith, stop_here (told c.in-Err.is (descends h c.program.ensures)), ap (λ (s : State). s.at.0) c.state-s.ensures, length-take-le (3 * (c.args.count + 1)) c.args.tokens.now (omega (arith, h.few, held_tokens c.requires.held)))
 
 pub returns-in-Ok : goal.returns-in-Ok
 returns-in-Ok c =
@@ -60,4 +61,4 @@ returns-in-Err c =
     let h = hands p in
     let e = c.clear.ensures in
     let told_by = c.stopped_by-reason.ensures in
-    refuses p h (c.program.auto.tree ∙ c.requires.tree_len) (told c.in-Err.is (descends h c.program.ensures)) told_by c.code_at.ensures c.start_at-place.ensures e.tokens_after e.text_after e.tree_after
+    refuses p h (c.program.auto.tree ∙ c.requires.tree_len) (told c.in-Err.is (descends h c.program.ensures)) c.reason.ensures c.state-s.ensures told_by c.code_at.ensures c.start_at-place.ensures e.tokens_after e.text_after e.tree_after

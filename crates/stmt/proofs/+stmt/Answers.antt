@@ -100,7 +100,7 @@ class_body-further-requires t c =
 pub class_body-returns-in_err-first-clause-parts : goal.class_body-returns-in_err-first-clause-parts
 class_body-returns-in_err-first-clause-parts t c =
     let e = class_body-indent t (goal.at.class_body-returns-in_err-first-clause-parts t c).In_ok-on in
-    rw (handed_on _ c.from_residual-in_err-first.ensures.1) (record { comes = λ vs. step_then e (part_then c.method.ensures c.in_ok-n.was (one_then (c.further.ensures.stops _ _ _ c.in_err-first.was _ _ _))) })
+    rw (handed_on _ c.from_residual-in_err-first.ensures.1) (record { comes = λ vs. step_then e (part_then c.method.ensures c.in_ok-n.was (one_then (c.further.ensures.stops _ _ c.in_err-first.was _ _ _))) })
 
 pub class_body-take-requires-2-clause-at_bound : goal.class_body-take-requires-2-clause-at_bound
 class_body-take-requires-2-clause-at_bound t c = (c.further.ensures.leads _ _ c.in_ok-first.was).ready.here

@@ -24,4 +24,4 @@ returns c =
 
 pub returns-in_err-head : goal.returns-in_err-head
 returns-in_err-head c =
-    rw (handed_on _ c.from_residual.ensures.1) (record { comes = λ vs. c.rest.ensures.stops _ _ _ c.in_err-head.was _ _ _ })
+    rw (handed_on _ c.from_residual.ensures.1) (record { comes = λ vs. c.rest.ensures.stops _ _ c.in_err-head.was _ _ _ })
