@@ -50,7 +50,8 @@ pub fn rule_e(src: &[u8], toks: &[u32], tree: &mut [u32], left: u32, s: State) -
     lambda_or_o(src, toks, tree, left - 1, up)
 }
 
-// What an E is, once its opening counts. The compiler makes one function of it and the rules from O to F.
+// What an E is, once its opening counts. By the hints the compiler makes one function of it, the rules from O to F and the lists: a call hands the state on
+// through memory.
 #[cycle(expr)]
 #[inline(never)]
 fn lambda_or_o(src: &[u8], toks: &[u32], tree: &mut [u32], left: u32, s: State) -> Parsed
@@ -344,6 +345,7 @@ fn shut(
 
 // A list of E, which may be empty: its first node, or none.
 #[cycle(expr)]
+#[inline(always)]
 fn items(src: &[u8], toks: &[u32], tree: &mut [u32], left: u32, s: State) -> Parsed
     requires { Ready src.now toks.now tree.old s 1 }
     ensures { Parts src.now toks.now left rules.list [] a_list s tree.old result tree.new }
@@ -359,6 +361,7 @@ fn items(src: &[u8], toks: &[u32], tree: &mut [u32], left: u32, s: State) -> Par
 // The rest of a list of E, or of pairs, after the member `newest`: each member is linked to the one before it. Which of both is a bool, as in the definition
 // `others`.
 #[cycle(expr)]
+#[inline(always)]
 fn rest(
     src: &[u8],
     toks: &[u32],
