@@ -91,8 +91,8 @@ code twice 1 "a::b: there are two functions of this name"
 library 8 'pluses(src, src_len)' 0
 found "a frame for each plus" "takes more than the 262,144 bytes of the stack"
 frames "a frame for each plus" "$out/libffi.a" 1 "frames comes to itself with no level between"
-library 200 'levels(src, src_len)' 0
-found "200 bytes more for each level" "bytes, promised are"
+library 500 'levels(src, src_len)' 0
+found "500 bytes more for each level" "bytes, promised are"
 library 8 0 1
 found "14 for 13" "answered 14 .*, which must be 13"
 library 8 0 3
