@@ -6,8 +6,8 @@
 
 objdump shows each function of the archive. Its instructions are walked along all jumps, with how deep the stack is before each; what is below the stack
 pointer and used (the red zone) counts too. The sum is that of the longest chain of calls. At most 64 E and Block are open at once:
-- in the reader one more Block is refused by the first test of rule_block, and one more E before lambda_or_o is called: so of the calls that are open, no more
-  than 65 are of these two, and the last of so many calls nothing;
+- in the reader one more E is refused before lambda_or_o is called, and one more Block by the first test of rule_block: so of the calls that are open, 64 at
+  most are of these two, or 65 where the last is a rule_block, which calls nothing. The sum has a 65th of either, which is a little too much for an E;
 - in the writer, of an accepted script, put_expr calls itself where an E is opened, or for a rule further behind: seven calls for each E at most, one for
   the E, five for what stands right of `or`, `and`, a comparison, + and *, and one for what stands behind signs. put_line calls itself where a Block is
   opened, and once more for the Elif, Else or Method that has it.

@@ -50,8 +50,8 @@ pub fn rule_e(src: &[u8], toks: &[u32], tree: &mut [u32], left: u32, s: State) -
     lambda_or_o(src, toks, tree, left - 1, up)
 }
 
-// What an E is, once its opening counts. By the hints the compiler makes one function of it, the rules from O to F and the lists: a call hands the state on
-// through memory.
+// What an E is, once its opening counts. By the hints the compiler makes one function of it, the rules from O to F and the list of a call: each call between
+// them would hand the state on through memory.
 #[cycle(expr)]
 #[inline(never)]
 fn lambda_or_o(src: &[u8], toks: &[u32], tree: &mut [u32], left: u32, s: State) -> Parsed
