@@ -13,7 +13,7 @@ mod answers;
 use answers::print_answer;
 use cases::hex::unhex;
 use cases::lines::read_full;
-use cases::replay::replay_text;
+use cases::replay::replay_text_unbuffered;
 use std::io;
 
 fn print_result(rt: &impl Print, line: &[u8]) -> io::Result<()> {
@@ -25,5 +25,5 @@ fn print_result(rt: &impl Print, line: &[u8]) -> io::Result<()> {
 fn main(rt: HostRuntime) {
     let mut text = [0; 65536];
     let n = read_full(&mut rt.stdin(), &mut text);
-    replay_text(&text[..n], |out, line| print_result(out, line));
+    replay_text_unbuffered(&text[..n], |out, line| print_result(out, line));
 }

@@ -31,7 +31,7 @@ use Rattle.leaves.specs.declared.Added.{Added}
 use Rattle.leaves.specs.declared.Refused.{Refused}
 use Rattle.leaves.specs.declared.Refused.TheVariants as refused
 use Rattle.lookahead.specs.Tokens.{eof_at, text_before, tokens_of, symbol_at}
-use Rattle.leaves.specs.Contract.{Parsed, read, past, kept, state, stopped, asked_for, Shape, a_node, Frame, Told, told_node, told_no, told_deep, Rules, Comes, Parts}
+use Rattle.leaves.specs.Contract.{Parsed, read, past, kept, state, why, stopped, asked_for, Shape, a_node, Frame, Told, told_node, told_no, told_deep, Rules, Comes, Parts}
 use Rattle.leaves.proofs.Asked.{asked_where}
 use Rattle.leaves.proofs.Frames.{frame_none, frame_then}
 use Rattle.lookahead.proofs.Tokens.{symbols_length, symbols_at, sees_at}
@@ -43,6 +43,10 @@ good r = tested pyhyeon r (language.passes r)
 -- answers that are one and the same hold the same
 pub read_same : {n m : NodeNumber} {s t : State} → read n s ≡ read m t → (n ≡ m) × (s ≡ t)
 read_same {n} {m} {s} {t} e = let d : ◌≡◌ {A = Added} (record { 0 = n; 1 = s }) (record { 0 = m; 1 = t }) = cc in (ap (λ (r : Added). r.0) d, ap (λ (r : Added). r.1) d)
+
+-- answers that are the same refusal have one reason and one state
+pub refused_same : {x y : Refused} → ◌≡◌ {A = Parsed} (Err x) (Err y) → (why x ≡ why y) × (stopped x ≡ stopped y)
+refused_same {x} {y} e = let d : ◌≡◌ {A = Refused} x y = cc in (ap why d, ap stopped d)
 
 -- what `?` hands on is the refusal that it met
 pub handed_on : {e : Refused} (r : Parsed) → IsErrAnd r (λ y. y ≡ e) → r ≡ Err e

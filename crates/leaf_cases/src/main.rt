@@ -15,7 +15,7 @@ mod answers;
 
 use answers::{print_characters, print_float, print_int, print_string, print_tokens, print_utf8};
 use cases::hex::unhex;
-use cases::replay::replay;
+use cases::replay::replay_unbuffered;
 use std::io;
 use std::io::ErrorKind;
 
@@ -43,5 +43,5 @@ fn print_result(rt: &impl Print, line: &[u8]) -> io::Result<()> {
 }
 
 fn main(rt: HostRuntime) {
-    replay(&rt, |out, line| print_result(out, line));
+    replay_unbuffered(&rt, |out, line| print_result(out, line));
 }

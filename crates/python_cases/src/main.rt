@@ -13,7 +13,7 @@ mod answers;
 
 use answers::print_answer;
 use cases::hex::unhex;
-use cases::replay::replay;
+use cases::replay::replay_unbuffered;
 use std::io;
 
 fn print_result(rt: &impl Print, line: &[u8]) -> io::Result<()> {
@@ -23,5 +23,5 @@ fn print_result(rt: &impl Print, line: &[u8]) -> io::Result<()> {
 }
 
 fn main(rt: HostRuntime) {
-    replay(&rt, |out, line| print_result(out, line));
+    replay_unbuffered(&rt, |out, line| print_result(out, line));
 }

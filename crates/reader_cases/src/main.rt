@@ -12,7 +12,7 @@ mod answers;
 
 use answers::{print_answer, print_slices, print_sums};
 use cases::lent::{Marks, SMALL, lend};
-use cases::replay::replay;
+use cases::replay::replay_unbuffered;
 use cases::sources::expand;
 use std::io;
 use std::io::ErrorKind;
@@ -40,5 +40,5 @@ fn print_result(rt: &impl Print, line: &[u8]) -> io::Result<()> {
 }
 
 fn main(rt: HostRuntime) {
-    replay(&rt, |out, line| print_result(out, line));
+    replay_unbuffered(&rt, |out, line| print_result(out, line));
 }

@@ -12,7 +12,7 @@ mod answers;
 
 use answers::print_answer;
 use cases::hex::unhex;
-use cases::replay::replay_file;
+use cases::replay::replay_file_unbuffered;
 use std::io;
 
 fn print_result(rt: &impl Print, line: &[u8]) -> io::Result<()> {
@@ -22,6 +22,6 @@ fn print_result(rt: &impl Print, line: &[u8]) -> io::Result<()> {
 }
 
 fn main(rt: HostRuntime) {
-    replay_file(&rt, b"picked", |out, line| print_result(out, line));
-    replay_file(&rt, b"generated", |out, line| print_result(out, line));
+    replay_file_unbuffered(&rt, b"picked", |out, line| print_result(out, line));
+    replay_file_unbuffered(&rt, b"generated", |out, line| print_result(out, line));
 }

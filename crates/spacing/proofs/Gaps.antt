@@ -68,6 +68,9 @@ comment_is (b ∷ l) = go (eqb b 10) (comment_is l)
     go false e = ap suc e
 
 module _ (s : List ℕ) (i : ℕ) (within : i < length s) where
+  pub gap_blank : is_blank (get_or s i 0) ≡ true → i + gap false (drop i s) ≡ i + 1 + gap false (drop (i + 1) s)
+  gap_blank e = rw (at_cons s i within, e) (omega arith)
+
   pub gap_comment : get_or s i 0 ≡ 35 → i + gap false (drop i s) ≡ i + 1 + gap true (drop (i + 1) s)
   gap_comment e = rw (at_cons s i within, e) (omega arith)
 

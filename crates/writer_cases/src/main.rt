@@ -11,7 +11,7 @@ mod answers;
 
 use answers::{print_answer, print_out};
 use cases::lent::{GUARD_BYTE, Marks, lend};
-use cases::replay::replay;
+use cases::replay::replay_unbuffered;
 use cases::sources::{count_of, expand};
 use cases::sums::Sums;
 use std::io;
@@ -48,5 +48,5 @@ fn print_result(rt: &impl Print, line: &[u8]) -> io::Result<()> {
 }
 
 fn main(rt: HostRuntime) {
-    replay(&rt, |out, line| print_result(out, line));
+    replay_unbuffered(&rt, |out, line| print_result(out, line));
 }

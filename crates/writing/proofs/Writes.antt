@@ -2,10 +2,10 @@
 -- Assumes nothing.
 use mathlib.Core.Path.{◌≡◌, refl, sym, ap, ◌∙◌, subst}
 use mathlib.Core.List.{List, [], ◌++◌, append_assoc, append-nil}
-use Prim.Native.Nat.{ℕ, ◌-◌}
+use Prim.Native.Nat.{ℕ, ◌+◌, ◌-◌, ◌≤◌, min}
 use native.Mathlib.Omega.{arith}
-use lib.ListN.{drop, length-append}
-use Rattle.writing.specs.Wrote.{Wrote}
+use lib.ListN.{length, drop, length-append}
+use Rattle.writing.specs.Wrote.{Wrote, Empty}
 use Rattle.writing.specs.declared.back.Back.{Back}
 
 pub nothing : (o : Back) → Wrote [] o o
@@ -42,3 +42,7 @@ left_less {rest = rest} {b = b} l e w = record {
 
 pub left_none : {t left : List ℕ} {o n : Back} → Left t left o n → left ≡ [] → Wrote t o n
 left_none l e = same (sym (l.parts ∙ ap (λ (x : List ℕ). x ++ l.done) e)) l.wrote
+
+-- Whoever begins with `new` stays within the room for the longest text, and one more, whatever is written.
+pub within_room : {t before : List ℕ} {o n : Back} → Empty o before → Wrote t o n → n.at ≤ min (length n.out.now) 65536 + 1
+within_room e w = rw (w.long, e.holds, w.next, e.start) (omega arith)
