@@ -1,6 +1,6 @@
-// The cases of files, one a line, printed with ` = ` and their results behind them. `replay`, `replay_file` and `replay_text` print to what the caller gives, and so
-// does what they take to print a result with. The three called unbuffered, by which the programs replay their stored cases, print to standard output piece by
-// piece (`output::Unbuffered`), and hand that on.
+// The cases of files, one a line, printed with ` = ` and their results behind them. `replay`, `replay_file` and `replay_text` print to what the caller gives; what
+// they take to print a result with is not handed that, and has its own. The three called unbuffered, by which the programs replay their stored cases, print to
+// standard output piece by piece (`output::Unbuffered`), and hand that on.
 use crate::STDOUT_FILENO;
 use crate::lines::{Lines, read};
 use crate::output::Unbuffered;
